@@ -15,7 +15,7 @@ from pathlib import Path
 TOP = Path(__file__).resolve().parent.parent
 SOURCE = TOP / "crates/standard_error/src"
 # What stands for something else in the page's sentences.
-PLACES = re.compile(r"\b(?:WHAT|FILE|REASON|FAULT|HINT|LINE|LIMIT|NAME|ONE|OTHER|WORD|COMMAND|KEY|RANGE|COUNT|MOST)\b|--[a-z]+ wants\b")
+PLACES = re.compile(r"\b(?:WHAT|FILE|REASON|FAULT|HINT|LINE|LIMIT|NAME|ONE|OTHER|WORD|COMMAND|KEY|RANGE|COUNT|MOST|CONDITION|TEXT|WHY|PORT)\b|--[a-z]+ wants\b")
 # Texts that no run can reach: each key has a range, and each array a greatest count.
 NEVER = {"another value", "fewer"}
 LITERAL = re.compile(r'"((?:[^"\\]|\\.)*)"', re.DOTALL)
@@ -67,7 +67,7 @@ def ranges(formats: str) -> list[str]:
 def main() -> int:
     argparse.ArgumentParser(description="Compares docs/STANDARD_ERROR.md with the texts of crates/standard_error.").parse_args()
     page = (TOP / "docs/STANDARD_ERROR.md").read_text(encoding="utf-8")
-    spoken = [*literals("fault.rt"), *literals("message.rt"), *literals("commands.rt"), *constants()]
+    spoken = [*literals("fault.rt"), *literals("message.rt"), *literals("beginning.rt"), *literals("commands.rt"), *constants()]
     said = "\n".join(spoken)
     read = plain(page)
     wrong = [f"no text of the source has '{piece}'" for piece in sentences(page) if piece not in said]

@@ -19,10 +19,11 @@ use host_links::{HostOutside, StreamSink};
 use radio_engine::{Status, end_without_memory, run_station};
 use radio_receiver::{DcfReceiver, MsfReceiver, Receiver, WwvbReceiver};
 use receiver_rack::put_in_rack;
-use run_report::write_report;
+use run_report::{write_beginning, write_report};
 use standard_error::Watched;
 use std::alloc::{AllocError, Global};
 use std::fs::{self, Files};
+use std::io::IsTerminal;
 use std::os::fd::AsRawFd;
 use std::process::ExitCode;
 use std::sync::Wait;
@@ -37,6 +38,9 @@ fn main(rt: HostRuntime) -> ExitCode {
     let all = env::args(&rt);
     let are_text = all.is_ok();
     let words = arguments_of(rt.alloc(), all);
+    if rt.stderr().is_terminal() {
+        write_beginning(&rt, &words);
+    }
     let code = run_program(&rt, rt.alloc(), &words, &mut outside, &mut out);
     write_report(&rt, &words, are_text, outside.refusal(), out.stream());
     code

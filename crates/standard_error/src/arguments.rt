@@ -8,8 +8,8 @@ use std::alloc::{AllocError, Global};
 pub enum Argument<'a> {
     Command(&'a str),
     Option { name: &'a str, value: &'a str },
-    /// An option that has no value.
-    Bare(&'a str),
+    /// An option that has no value: what follows it is empty, begins with `-`, or is not there.
+    Bare { name: &'a str, next: &'a str },
     Unknown(&'a str),
 }
 
@@ -24,7 +24,7 @@ enum State<'a> {
 // An option with the next argument as its value; it has none where that is empty or begins as an option.
 fn with_value<'a>(name: &'a str, value: &'a str) -> Argument<'a> {
     if value.is_empty() || value.starts_with('-') {
-        Argument::Bare(name)
+        Argument::Bare { name, next: value }
     } else {
         Argument::Option { name, value }
     }
@@ -76,7 +76,7 @@ pub fn read_arguments<'a>(
         }
     }
     if let State::Waits(name) = state {
-        read.push(Argument::Bare(name))?;
+        read.push(Argument::Bare { name, next: "" })?;
     }
     Ok(read)
 }

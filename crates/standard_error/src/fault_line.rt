@@ -15,11 +15,20 @@ fn line_at(text: &[u8], place: usize) -> usize {
     line
 }
 
-/// The line in which a text stops being TOML or UTF-8, from 1. Lines end with a line feed. There is none where the text is TOML,
-/// or where memory runs out.
-pub fn toml_line(alloc: Global, text: &[u8]) -> Option<usize> {
+/// The line in which a text stops being TOML or UTF-8, from 1, and why. Lines end with a line feed.
+#[derive(Drop)]
+pub struct TomlFault {
+    pub line: usize,
+    pub why: String,
+}
+
+/// Where and why a text stops being TOML or UTF-8. There is none where the text is TOML, or where memory runs out.
+pub fn toml_fault(alloc: Global, text: &[u8]) -> Option<TomlFault> {
     match toml::table_from_slice(alloc, text) {
         Ok(_) => None,
-        Err(error) => Some(line_at(text, error.span()?.start)),
+        Err(error) => Some(TomlFault {
+            line: line_at(text, error.span()?.start),
+            why: String::from_str(alloc, error.message()).ok()?,
+        }),
     }
 }

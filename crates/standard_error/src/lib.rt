@@ -2,11 +2,13 @@
 //! proof speaks of these texts, and nothing else depends on them.
 //!
 //! To read it in this order: `message` (about a run that has ended), `outcome` (its last line), `watched` (how that line is
-//! kept), `fault`, `arguments`, `commands` (a wrong command line), `fault_line` (a file that is not TOML), `widths` (a log
-//! without a minute), `texts` (all of them).
+//! kept), `fault`, `arguments`, `commands` (a wrong command line), `fault_line` (a file that is not TOML), `bad_line` (a line that
+//! is not valid), `widths` (a log without a minute), `beginning` (a run that begins), `texts` (all of them).
 #![tactic(auto)]
 
 mod arguments;
+mod bad_line;
+mod beginning;
 mod commands;
 mod fault;
 mod fault_line;
@@ -17,9 +19,11 @@ mod watched;
 mod widths;
 
 pub use arguments::{Argument, read_arguments, value_of};
-pub use fault_line::toml_line;
-pub use message::{Detail, Place, Report};
-pub use outcome::{DONE_LINE, Kind, Subject, TOML_LINE, subject_of};
+pub use bad_line::{LeapRow, LineSeeker, log_fault, row_fault};
+pub use beginning::Beginning;
+pub use fault_line::{TomlFault, toml_fault};
+pub use message::{BadLine, Detail, Place, Report};
+pub use outcome::{DONE_LINE, Kind, Subject, TOML_LINE, bad_line_number, is_bad_line, subject_of};
 pub use texts::{NO_MEMORY_LINE, NO_MINUTE};
-pub use watched::Watched;
-pub use widths::{SAMPLE_BYTES, bad_line_text, no_minute_text};
+pub use watched::{Minutes, Watched};
+pub use widths::{SAMPLE_BYTES, no_minute_text};

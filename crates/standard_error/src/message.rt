@@ -2,12 +2,14 @@
 
 use crate::arguments::{Argument, value_of};
 use crate::fault::fault_of;
+use crate::fault_line::TomlFault;
 use crate::outcome::{
     Kind, Subject, bad_line_of, station_fault_of, status_of, subject_of, word_at,
 };
 use crate::texts::{
     COMMAND_LINES, FULL, HELP, JOURNAL_LINE, LEAP_LINE, LINK_FAILED, LOG_LINE, NO_MEMORY,
-    NO_OUTPUT, NO_TOML, NOT_READ, SCRIPT_LINE, VERSION, most_of, range_of, write_texts,
+    NO_OUTPUT, NO_TOML, NO_TOML_LINE, NO_TWO_AGREE, NOT_READ, SCRIPT_LINE, VERSION, most_of,
+    range_of, write_texts,
 };
 use host_links::Refusal;
 use std::fmt;
@@ -19,16 +21,29 @@ pub struct Place {
     pub is_leap_file: bool,
 }
 
+/// A line that is not valid.
+#[derive(Drop)]
+pub struct BadLine {
+    /// What is printable of its beginning.
+    pub text: String,
+    /// The condition that it does not meet, where one can be named.
+    pub why: Option<&'static str>,
+}
+
 /// What the files of a run say beside its last line, where they can be read once more.
 #[derive(Drop)]
 pub enum Detail {
     Nothing,
     /// The feed or the link that the last line names.
     Place(Place),
-    /// The line in which the station file stops being TOML, from 1.
-    TomlLine(usize),
-    /// Why a log gave no minute, or why its line is not valid.
+    /// The feed that the last line names, where it is one of a station, and its bad line.
+    Line { place: Option<Place>, line: BadLine },
+    /// Where the station file stops being TOML, and why.
+    Toml(TomlFault),
+    /// Why a log gave no minute.
     Hint(&'static str),
+    /// No two minutes of a log agree.
+    Disagreement,
 }
 
 /// A run that has ended. Its `Display` is the message about it: whole lines, or nothing. It owns its texts, since the borrow
@@ -49,7 +64,7 @@ fn is_help(argument: &Argument<'_>) -> bool {
     match *argument {
         Argument::Unknown(option) => option == "--help" || option == "-h",
         Argument::Command(word) => word == "help",
-        Argument::Bare(_) | Argument::Option { .. } => false,
+        Argument::Bare { .. } | Argument::Option { .. } => false,
     }
 }
 
@@ -107,6 +122,16 @@ fn key_parts(key: &str) -> (&str, &str) {
 fn range_text(key: &str) -> &'static str {
     let (table, name) = key_parts(key);
     range_of(table, name).unwrap_or("another value")
+}
+
+// The message about a key of a station file that is not known. A key of the top table may stand below a table's head by mistake.
+fn write_unknown<W: fmt::Write>(key: &str, f: &mut fmt::Formatter<W>) -> fmt::Result {
+    write_texts(f, "there is no key ", key, "")?;
+    let (table, name) = key_parts(key);
+    if !table.is_empty() && range_of("", name).is_some() {
+        write_texts(f, "; ", name, " stands above the first [[..]]")?;
+    }
+    Ok(())
 }
 
 // The message about an array of a station file that is too long: its name and how many it has.
@@ -181,14 +206,6 @@ fn kind_text(kind: Kind) -> &'static str {
     }
 }
 
-// The number of a feed or a link; the others have none.
-fn number_text(subject: Subject<'_>) -> &str {
-    match subject.kind {
-        Kind::Feed | Kind::Link => subject.number,
-        Kind::Station | Kind::Script | Kind::Journal => "",
-    }
-}
-
 impl<'a> Report<'a> {
     // The value of an option.
     fn value(&self, option: &str) -> Option<&'a str> {
@@ -198,11 +215,20 @@ impl<'a> Report<'a> {
         }
     }
 
+    // What the station has at the feed or the link that the last line names.
+    fn place(&self) -> Option<&Place> {
+        match &self.detail {
+            Detail::Place(place) => Some(place),
+            Detail::Line { place, .. } => place.as_ref(),
+            _ => None,
+        }
+    }
+
     // Whether the feed that the last line names is a leap second file.
     fn is_leap_file(&self) -> bool {
-        match &self.detail {
-            Detail::Place(place) => place.is_leap_file,
-            _ => false,
+        match self.place() {
+            Some(place) => place.is_leap_file,
+            None => false,
         }
     }
 
@@ -215,12 +241,41 @@ impl<'a> Report<'a> {
         }
     }
 
-    // Why a line is not valid, or else what a line looks like.
-    fn bad_line_text(&self, kind: Kind) -> &'static str {
-        match self.detail {
-            Detail::Hint(why) => why,
-            _ if self.is_leap_file() => LEAP_LINE,
-            _ => line_text(kind),
+    // What a line of a file looks like.
+    fn line_text(&self, kind: Kind) -> &'static str {
+        if self.is_leap_file() {
+            LEAP_LINE
+        } else {
+            line_text(kind)
+        }
+    }
+
+    // Why a line is not valid, and the line, or else what a line looks like.
+    fn write_why<W: fmt::Write>(&self, kind: Kind, f: &mut fmt::Formatter<W>) -> fmt::Result {
+        let general = self.line_text(kind);
+        match &self.detail {
+            Detail::Line { line, .. } => {
+                write_texts(f, line.why.unwrap_or(general), ": '", line.text.as_str())?;
+                f.write_str("'")
+            }
+            _ => f.write_str(general),
+        }
+    }
+
+    // What the last line names, before its number: a decoded log is the only one of its run.
+    fn kind_text(&self, kind: Kind) -> &'static str {
+        match kind {
+            Kind::Feed if self.value("log").is_some() => "the log",
+            _ => kind_text(kind),
+        }
+    }
+
+    // The number of a feed or a link; the others, and a decoded log, have none.
+    fn number_text<'b>(&self, subject: Subject<'b>) -> &'b str {
+        match subject.kind {
+            Kind::Feed if self.value("log").is_none() => subject.number,
+            Kind::Link => subject.number,
+            _ => "",
         }
     }
 
@@ -238,18 +293,27 @@ impl<'a> Report<'a> {
         subject: Subject<'_>,
         f: &mut fmt::Formatter<W>,
     ) -> fmt::Result {
-        write_texts(f, kind_text(subject.kind), number_text(subject), "")?;
-        match &self.detail {
-            Detail::Place(place) => write_texts(f, " (", place.name.as_str(), ")"),
-            _ => self.write_value(option_of(subject.kind), f),
+        write_texts(
+            f,
+            self.kind_text(subject.kind),
+            self.number_text(subject),
+            "",
+        )?;
+        match self.place() {
+            Some(place) => write_texts(f, " (", place.name.as_str(), ")"),
+            None => self.write_value(option_of(subject.kind), f),
         }
     }
 
     // What is wrong with a line of the station file, or with all of it.
     fn write_no_toml<W: fmt::Write>(&self, f: &mut fmt::Formatter<W>) -> fmt::Result {
-        match self.detail {
-            Detail::TomlLine(line) => write!(f, "line {line}{NO_TOML}"),
-            _ => write_texts(f, "it", NO_TOML, ""),
+        match &self.detail {
+            Detail::Toml(fault) => {
+                let line = fault.line;
+                write!(f, "line {line}")?;
+                write_texts(f, NO_TOML_LINE, fault.why.as_str(), "")
+            }
+            _ => f.write_str(NO_TOML),
         }
     }
 
@@ -257,7 +321,7 @@ impl<'a> Report<'a> {
     fn write_fault<W: fmt::Write>(&self, f: &mut fmt::Formatter<W>) -> fmt::Result {
         let (fault, key) = station_fault_of(self.last_line.as_str());
         match fault {
-            "unknown" => write_texts(f, "there is no key ", key, ""),
+            "unknown" => write_unknown(key, f),
             "missing" => write_texts(f, "the key ", key, " is missing"),
             "range" => write_texts(f, key, " wants ", range_text(key)),
             "many" => write_many(key, f),
@@ -294,7 +358,6 @@ impl<'a> Report<'a> {
         subject: Subject<'_>,
         f: &mut fmt::Formatter<W>,
     ) -> fmt::Result {
-        let why = self.bad_line_text(subject.kind);
         write_texts(
             f,
             "radio_ntpd: line ",
@@ -302,7 +365,9 @@ impl<'a> Report<'a> {
             " of ",
         )?;
         self.write_subject(subject, f)?;
-        write_texts(f, " is bad: ", why, "\n")
+        f.write_str(" is bad: ")?;
+        self.write_why(subject.kind, f)?;
+        f.write_str("\n")
     }
 
     // The message about a file that is too long.
@@ -353,6 +418,7 @@ impl<'a> Report<'a> {
             Detail::Hint(why) => {
                 write_texts(f, "radio_ntpd: the log gave no minute: ", why, "\n")
             }
+            Detail::Disagreement => write_texts(f, "radio_ntpd: ", NO_TWO_AGREE, "\n"),
             _ => Ok(()),
         }
     }

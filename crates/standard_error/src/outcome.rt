@@ -1,4 +1,5 @@
-//! How a run ended, as the last line of its output says.
+//! How a run ended, as the last line of its output says. It is a second reader of what `file_commands` (`ending/text.rt`) writes;
+//! `message_tests` has each line, and `checks/messages.sh` reads those of the program.
 
 /// The status of a run whose status line was not written whole.
 pub const NOT_WRITTEN: u8 = 8;
@@ -109,4 +110,14 @@ fn after_word(line: &str) -> &str {
 pub fn station_fault_of(line: &str) -> (&str, &str) {
     let rest = after_word(after_word(after_word(line)));
     rest.split_once(' ').unwrap_or((rest, ""))
+}
+
+/// Whether a last line names a bad line.
+pub fn is_bad_line(line: &str) -> bool {
+    status_of(line) == 5
+}
+
+/// The number of the bad line that a last line names, from 1.
+pub fn bad_line_number(line: &str) -> Option<u64> {
+    bad_line_of(line).parse().ok()
 }

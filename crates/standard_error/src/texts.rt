@@ -42,9 +42,9 @@ radio_ntpd migrate --station FILE --journal FILE
 radio_ntpd --help
 ";
 
-/// The program's version, and the kit that it is proved and built with.
+/// The program's version, and the kit that it is to be proved and built with.
 pub const VERSION: &str = "radio_ntpd 0.3.0
-proved and built with rattle-kit-13f logic dac8208d650f15bf
+to be proved and built with rattle-kit-13f logic dac8208d650f15bf
 ";
 
 /// Where a log gave no minute and was a pipe, which is not read again.
@@ -53,8 +53,12 @@ pub const NO_MINUTE: &str = "it has no marks of this plan, or its widths are not
 /// Where a log gave no minute, and its widths are below those of any mark.
 pub const IN_MILLISECONDS: &str = "widths look like milliseconds; the log wants microseconds";
 
-/// Where a line of a log is not valid, and the widths are above those of any mark.
-pub const IN_NANOSECONDS: &str = "widths look like nanoseconds; the log wants microseconds";
+/// Where a log gave no minute, and its widths are too great for milliseconds and too small for microseconds.
+pub const TOO_SMALL: &str = "widths are below those of any mark; the log wants microseconds";
+
+/// Where a log gave no minute, and its starts rise by some 1000 a second.
+pub const STARTS_IN_MILLISECONDS: &str =
+    "starts look like milliseconds, and widths like microseconds; the log wants microseconds for both";
 
 /// Where a log gave no minute, and is shorter than one.
 pub const SHORT_LOG: &str = "it has fewer marks than a minute has";
@@ -71,9 +75,24 @@ pub const LIKE_WWVB: &str = "its marks look like those of --plan wwvb";
 /// Where a log gave no minute, and its marks are those of the plan.
 pub const NOT_WHOLE: &str = "its marks look like those of this plan, but no minute has them all";
 
+/// Where a log gave no minute, and its widths are what is left of a second beside a mark.
+pub const INVERTED: &str =
+    "its marks are high where they should be low; give edges_to_log.py --low";
+
+/// Where a log gave no minute, and its marks are those of the plan but for a length that each has too much.
+pub const TOO_WIDE: &str =
+    "its marks look like those of this plan, each some 30 to 100 ms too long; set the receiver's threshold";
+
+/// Where a log gave no minute, and its marks are those of the plan but for a length that each lacks.
+pub const TOO_NARROW: &str =
+    "its marks look like those of this plan, each some 30 to 100 ms too short; set the receiver's threshold";
+
 /// Where a log gave no minute, and its marks are those of no plan.
-pub const NO_MARKS: &str =
-    "its widths are those of no plan; it is noise, or high where it should be low";
+pub const NO_MARKS: &str = "its widths are those of no plan; it is noise";
+
+/// Where a log gave minutes, of which no two agree.
+pub const NO_TWO_AGREE: &str =
+    "no two minutes of the log agree, as where its counter is 0.2 % or more too fast or too slow";
 
 /// Where the output accepts no more.
 pub const NO_OUTPUT: &str = "standard output took no more: it is closed, or its disk is full";
@@ -84,9 +103,11 @@ pub const NO_MEMORY: &str = "no memory was found, and nothing was done";
 /// Where there is not enough memory for the message.
 pub const NO_MEMORY_LINE: &str = "radio_ntpd: no memory was found to say more\n";
 
-/// Where the station file is no TOML, after `it` or the number of the line.
-pub const NO_TOML: &str =
-    " is not TOML, or not UTF-8: a quote is not closed, or a value is missing";
+/// Where the station file is no TOML, and was a pipe.
+pub const NO_TOML: &str = "it is not TOML, or not UTF-8";
+
+/// Where the station file is no TOML, after the number of the line.
+pub const NO_TOML_LINE: &str = " is not TOML: ";
 
 /// Why a read fails.
 pub const NOT_READ: &str = "it is a folder, or its disk failed";
@@ -107,11 +128,84 @@ pub const LEAP_LINE: &str =
 
 /// What a line of a script looks like.
 pub const SCRIPT_LINE: &str =
-    "docs/FORMATS.md has the lines of a script, and which feed may have which";
+    "man radio_ntpd has the lines of a script, and docs/FORMATS.md which feed may have which";
 
 /// What a line of a journal looks like.
 pub const JOURNAL_LINE: &str =
-    "docs/FORMATS.md has the lines of a journal; it may be of another station, or cut off";
+    "man radio_ntpd has the lines of a journal; it may be of another station, or cut off";
+
+// What is wrong with a bad line: one condition each. `docs/FORMATS.md` has them.
+
+pub const EMPTY_LINE: &str = "it is empty";
+
+pub const BYTE_ORDER_MARK: &str = "a byte order mark stands before it";
+
+pub const UTF_16: &str = "it is UTF-16, and ASCII is wanted";
+
+pub const CR_END: &str = "a carriage return stands at its end";
+
+pub const CR_INSIDE: &str = "a carriage return stands in it; a line ends with a line feed";
+
+pub const EDGE: &str = "it is an edge of a receiver; edges_to_log.py makes a log of edges";
+
+pub const TAB: &str = "a tab stands in it; one space stands between START and WIDTH";
+
+pub const COMMENT: &str = "a log has no remarks";
+
+pub const NEGATIVE: &str = "a number is negative";
+
+pub const SEPARATOR: &str =
+    "a comma or a semicolon stands in it; one space stands between START and WIDTH";
+
+pub const NOT_WHOLE_NUMBER: &str = "a number is not whole; both are whole microseconds";
+
+pub const ODD_BYTE: &str = "it has a byte that is no digit and no space";
+
+pub const LONG_LINE: &str = "it has 32 bytes or more";
+
+pub const SPACE_FIRST: &str = "a space stands at its beginning";
+
+pub const SPACE_LAST: &str = "a space stands at its end";
+
+pub const TWO_SPACES: &str = "two spaces stand in it";
+
+pub const ONE_NUMBER: &str = "it has one number; a line is START WIDTH";
+
+pub const THREE_NUMBERS: &str = "it has more than two numbers; a line is START WIDTH";
+
+pub const LEADING_ZERO: &str = "a number has a leading zero";
+
+pub const START_END: &str = "it looks like START END; a line is START WIDTH";
+
+pub const WIDTH_START: &str = "it looks like WIDTH START; a line is START WIDTH";
+
+pub const NANOSECONDS: &str = "its width looks like nanoseconds; the log wants microseconds";
+
+pub const GREAT_START: &str =
+    "its start is 2^50 (1125899906842624) or more, as a Unix time in microseconds is";
+
+pub const ZERO_WIDTH: &str = "its width is 0";
+
+pub const WIDE: &str = "its width is above 2000000 (2 s); a longer one is given as 2000000";
+
+pub const NOT_ABOVE: &str = "its start is not above that of the line before";
+
+pub const NO_LINE_FEED: &str = "the file ends before its line feed";
+
+pub const ROW_NUMBERS: &str =
+    "a row has two numbers, the second since 1900 at which a month begins and TAI less UTC from then on";
+
+pub const ROW_REMARK: &str = "after its two numbers only a remark may stand, which begins with #";
+
+pub const ROW_LATE: &str = "its second is 6311606400 (2100-01-03) or more";
+
+pub const ROW_DIFFERENCE: &str = "its difference is above 255";
+
+pub const ROW_FALLS: &str = "its second is not above that of the row before";
+
+pub const ROW_STEP: &str = "its difference is not one more than that of the row before";
+
+pub const ROW_MONTH: &str = "its second begins no month of UTC";
 
 /// What a key of a station file requires.
 pub struct Range {
@@ -191,7 +285,7 @@ pub const RANGES: [Range; 20] = [
     Range {
         table: "server",
         name: "address",
-        wants: "an address as \"192.0.2.1\", in quotes",
+        wants: "an IPv4 address as \"192.0.2.1\", in quotes; names and IPv6 are not served",
     },
     Range {
         table: "server",
@@ -221,7 +315,7 @@ pub const RANGES: [Range; 20] = [
     Range {
         table: "deny",
         name: "net",
-        wants: "a net as \"198.51.100.0/24\", in quotes",
+        wants: "a net of IPv4 as \"198.51.100.0/24\", in quotes",
     },
 ];
 

@@ -1,30 +1,47 @@
-//! A writer that keeps the last line of what it took.
+//! A writer that keeps the last line of what it took, and which minutes its lines were.
 
 use std::io::{self, Write};
 
 // The most bytes of a line that are kept.
 const ROOM: usize = 512;
 
-/// A writer that keeps the last line of what it took, and whether any line is a minute.
+// A log of which this many minutes differ, and no two agree, has a counter that is off, or more than noise.
+const MANY: u32 = 3;
+
+/// A writer that keeps the last line of what it took, and which minutes its lines were.
 #[derive(Drop)]
 pub struct Watched<W: Write + Drop> {
     inner: W,
     kept: LastLine,
 }
 
-// What is kept of a text: its last line, whether that is whole, and whether any line was a minute.
+/// What the minutes of a log were, as far as its lines are written.
+#[derive(Clone, Copy, Debug, PartialEq, Eq)]
+pub enum Minutes {
+    /// No minute was read whole.
+    None,
+    /// A minute was read whole, and fewer than three differ from the one before.
+    Some,
+    /// Three minutes or more differ from the one before, and no two agree.
+    Differ,
+    /// Two minutes agree.
+    Agree,
+}
+
+// What is kept of a text: its last line, whether that is whole, and which minutes its lines were.
 #[derive(Drop)]
 struct LastLine {
     bytes: [u8; ROOM],
     length: usize,
     is_whole: bool,
-    has_minute: bool,
+    has_lone: bool,
+    has_verdict: bool,
+    differing: u32,
 }
 
-// Whether a line of a journal is a minute that was read whole.
-fn says_minute(bytes: &[u8]) -> bool {
-    bytes.windows(6).any(|six| six == b" lone ".as_slice())
-        || bytes.windows(9).any(|nine| nine == b" verdict ".as_slice())
+// Whether a text has another in it.
+fn has(text: &[u8], part: &[u8]) -> bool {
+    text.windows(part.len().max(1)).any(|piece| piece == part)
 }
 
 impl LastLine {
@@ -35,6 +52,7 @@ impl LastLine {
         }
         self.is_whole = byte == b'\n';
         if self.is_whole {
+            self.keep_minute();
             return;
         }
         if let Some(place) = self.bytes.get_mut(self.length) {
@@ -43,11 +61,36 @@ impl LastLine {
         }
     }
 
+    // Keeps which minute a line was that has ended, as long as no two agreed.
+    fn keep_minute(&mut self) {
+        if self.has_verdict {
+            return;
+        }
+        let line = self.bytes.get(..self.length).unwrap_or(&[]);
+        self.has_verdict = has(line, b" verdict ");
+        self.has_lone = self.has_lone || has(line, b" lone ");
+        if has(line, b" differs ") {
+            self.differing = self.differing.saturating_add(1);
+        }
+    }
+
+    // The minutes of its lines.
+    fn minutes(&self) -> Minutes {
+        if self.has_verdict {
+            return Minutes::Agree;
+        }
+        if self.differing >= MANY {
+            return Minutes::Differ;
+        }
+        if self.has_lone {
+            Minutes::Some
+        } else {
+            Minutes::None
+        }
+    }
+
     // Keeps what was taken of the last line.
     fn keep(&mut self, taken: &[u8]) {
-        if !self.has_minute {
-            self.has_minute = says_minute(taken);
-        }
         for byte in taken {
             self.keep_byte(*byte);
         }
@@ -63,7 +106,9 @@ impl<W: Write + Drop> Watched<W> {
                 bytes: [0; ROOM],
                 length: 0,
                 is_whole: false,
-                has_minute: false,
+                has_lone: false,
+                has_verdict: false,
+                differing: 0,
             },
         }
     }
@@ -77,9 +122,9 @@ impl<W: Write + Drop> Watched<W> {
         }
     }
 
-    /// Whether any line was a minute: `lone` or `verdict`.
-    pub fn has_minute(&self) -> bool {
-        self.kept.has_minute
+    /// Which minutes the lines of a log were.
+    pub fn minutes(&self) -> Minutes {
+        self.kept.minutes()
     }
 }
 

@@ -2,7 +2,8 @@
 use crate::shared::{same, same_for};
 use host_links::Refusal;
 use standard_error::{
-    Detail, Place, Report, Watched, bad_line_text, no_minute_text, read_arguments, toml_line,
+    BadLine, Beginning, Detail, LeapRow, LineSeeker, Minutes, Place, Report, TomlFault, Watched,
+    log_fault, no_minute_text, read_arguments, row_fault, toml_fault,
 };
 use std::alloc::Global;
 use std::io::Write;
@@ -67,7 +68,27 @@ server|status 1 usage|unknown command server
 serve decode|status 1 usage|two commands, serve and decode
 --station a|status 1 usage|no command
 serve --station|status 1 usage|--station has no value
+serve --station --during 5|status 1 usage|--station has no value
+serve --station -a|status 1 usage|--station has no value: -a begins with a hyphen; write ./ before such a name
+decode --plan dcf --log -|status 1 usage|--log wants a file's name; standard input is /dev/stdin
+serve --station a --during -1|status 1 usage|--during wants a whole number from 0 to 1000000
+drill --seed -1|status 1 usage|--seed wants a whole number from 0 to 4294967295
+decode --plan -|status 1 usage|--plan wants dcf, msf or wwvb
 serve --station=a --station=b|status 1 usage|--station is given twice
+drill --log a --log b|status 1 usage|--log is given twice
+drill --log a|status 1 usage|drill has no option --log
+decode --plan x|status 1 usage|--plan wants dcf, msf or wwvb
+decode --log a --plan x --staton a|status 1 usage|unknown option --staton
+decode --staton a --log|status 1 usage|unknown option --staton
+decode --log -- --staton a|status 1 usage|--log has no value
+decode examples/x.log|status 1 usage|examples/x.log stands alone: a file goes after --log
+examples/x.log decode --plan dcf|status 1 usage|examples/x.log stands alone: a file goes after --log
+decode --plan dcf --log a b|status 1 usage|b stands alone: a file goes after --log
+serve x.toml|status 1 usage|x.toml stands alone: a file goes after --station
+replay --station a b|status 1 usage|b stands alone: a file goes after --script
+migrate a|status 1 usage|a stands alone: a file goes after --station
+drill 7|status 1 usage|7 stands alone: a number goes after --seed
+decode decode|status 1 usage|two commands, decode and decode
 -h|status 1 usage|SEED      0 to 4294967295
 |status 1 usage|SEED      0 to 4294967295
 serve -- --station a|status 1 usage|two commands, serve and --station
@@ -87,17 +108,19 @@ fn arguments_that_ask_for_nothing_are_told(rt: HostRuntime) {
 }
 
 const STATUSES: &str =
-    "decode --log a.log|status 2 open feed 0|cannot open feed 0 (a.log): there is no such file
+    "decode --log a.log|status 2 open feed 0|cannot open the log (a.log): there is no such file
 serve --station b.toml|status 3 station toml|the station file (b.toml): it is not TOML, or not UTF-8
 serve|status 3 station unknown odd key|there is no key odd key
+serve|status 3 station unknown link.0.bound|there is no key link.0.bound; bound stands above the first [[..]]
+serve|status 3 station unknown |there is no key 
 serve|status 3 station missing radio.0.log|the key radio.0.log is missing
 serve|status 3 station range link.0.port|link.0.port wants a whole number, 1 to 65535
 serve|status 3 station range bound|bound wants whole milliseconds, 1 to 16000
 serve|status 3 station many link 9|link counts 9, and there may be 8
 replay --script c|status 4 read script|cannot read the script (c): it is a folder
-decode --log a.log|status 5 line 0 2|line 2 of feed 0 (a.log) is bad: a line is START WIDTH
-migrate|status 5 journal 7|line 7 of the journal is bad: docs/FORMATS.md has the lines of a journal;
-replay --script c|status 5 script 7|line 7 of the script (c) is bad: docs/FORMATS.md has the lines of a script,
+decode --log a.log|status 5 line 0 2|line 2 of the log (a.log) is bad: a line is START WIDTH
+migrate|status 5 journal 7|line 7 of the journal is bad: man radio_ntpd has the lines of a journal;
+replay --script c|status 5 script 7|line 7 of the script (c) is bad: man radio_ntpd has the lines of a script,
 serve|status 6 full 2|more entries than a journal may have: 2
 serve|status 7 link 1|the host failed link 1: a hearing or a sending of it
 serve|0 1 refused 2|standard output took no more
@@ -109,7 +132,8 @@ serve --station b.toml|status 10 long station|the station file (b.toml) has more
 const LIMITS: &str =
     "replay --script c|status 10 long script|the script (c) has more than 2^26 bytes
 migrate --journal d|status 10 long journal|the journal (d) has more than 2^30 bytes
-decode --log a.log|status 10 long feed 0|feed 0 (a.log) has more than 2^30 bytes";
+decode --log a.log|status 10 long feed 0|the log (a.log) has more than 2^30 bytes
+serve|status 10 long feed 2|feed 2 has more than 2^30 bytes";
 
 #[test]
 fn a_file_that_is_too_long_has_its_limit(rt: HostRuntime) {
@@ -164,11 +188,79 @@ fn what_the_files_say_is_named(rt: HostRuntime) {
     says(&rt, alloc, "decode", "status 0", Refusal::Other, hint, text);
     let none = Detail::Nothing;
     says(&rt, alloc, "drill", "status 0", Refusal::Other, none, "");
-    let line = Detail::TomlLine(12);
+    let line = Detail::Toml(TomlFault {
+        line: 12,
+        why: text_of(&rt, alloc, "it is odd"),
+    });
     let last = "status 3 station toml";
-    let found = said(&rt, alloc, "serve", last, Refusal::Other, line);
-    let text = "radio_ntpd: the station file: line 12 is not TOML, ";
+    let text = "radio_ntpd: the station file: line 12 is not TOML: it is odd\n";
+    says(&rt, alloc, "serve", last, Refusal::Other, line, text);
+    let none = Detail::Disagreement;
+    let found = said(&rt, alloc, "decode", "status 0", Refusal::Other, none);
+    begins(
+        &rt,
+        found.as_str(),
+        "radio_ntpd: no two minutes of the log agree",
+    );
+}
+
+// A bad line with this reason, of the station's feed of this name, or of the one log.
+fn bad(rt: &impl Abort, alloc: Global, name: Option<&str>, why: Option<&'static str>) -> Detail {
+    let place = match name {
+        Some(name) => Some(Place {
+            name: text_of(rt, alloc, name),
+            is_leap_file: false,
+        }),
+        None => None,
+    };
+    Detail::Line {
+        place,
+        line: BadLine {
+            text: text_of(rt, alloc, "1 2.5"),
+            why,
+        },
+    }
+}
+
+#[test]
+fn a_bad_line_is_shown(rt: HostRuntime) {
+    let alloc = rt.alloc();
+    let line = bad(&rt, alloc, None, Some("it is odd"));
+    let text = "radio_ntpd: line 9 of the log (l) is bad: it is odd: '1 2.5'\n";
+    let words = "decode --log l";
+    says(
+        &rt,
+        alloc,
+        words,
+        "status 5 line 0 9",
+        Refusal::Other,
+        line,
+        text,
+    );
+    let line = bad(&rt, alloc, Some("r"), Some("it is odd"));
+    let text = "radio_ntpd: line 9 of feed 2 (r) is bad: it is odd: '1 2.5'\n";
+    says(
+        &rt,
+        alloc,
+        "serve",
+        "status 5 line 2 9",
+        Refusal::Other,
+        line,
+        text,
+    );
+    let line = bad(&rt, alloc, None, None);
+    let found = said(
+        &rt,
+        alloc,
+        "migrate",
+        "status 5 journal 9",
+        Refusal::Other,
+        line,
+    );
+    let text =
+        "radio_ntpd: line 9 of the journal is bad: man radio_ntpd has the lines of a journal;";
     begins(&rt, found.as_str(), text);
+    assert!(rt; found.ends_with(": '1 2.5'\n"), "{found}");
 }
 
 #[test]
@@ -189,8 +281,9 @@ fn arguments_that_are_no_text_are_told(rt: HostRuntime) {
 
 // Texts that are not TOML, each with its line as counted by hand: the first; the last one, without a line feed; after carriage
 // returns; after letters of two and three bytes; and at a byte that is not UTF-8.
-const NO_TOML: [(&[u8], usize); 8] = [
+const NO_TOML: [(&[u8], usize); 9] = [
     (b"bound =", 1),
+    (b"bound = [\n", 1),
     (b"bound =\n", 1),
     (b"bound = = 1\nstart = 0\n", 1),
     (b"bound = 1\nstart = 0\ngap =", 3),
@@ -206,23 +299,56 @@ const NO_TOML: [(&[u8], usize); 8] = [
 // Looks at each row of texts and lines.
 fn have_lines(rt: &impl Abort, alloc: Global, rows: &[(&[u8], usize)]) {
     for (text, line) in rows {
-        same(rt, toml_line(alloc, text), Some(*line));
+        same(rt, line_of(alloc, text), Some(*line));
+    }
+}
+
+// The line in which a text stops being TOML.
+fn line_of(alloc: Global, text: &[u8]) -> Option<usize> {
+    match toml_fault(alloc, text) {
+        Some(fault) => Some(fault.line),
+        None => None,
+    }
+}
+
+// Why a text is not TOML.
+fn why_of(rt: &impl Abort, alloc: Global, text: &[u8]) -> String {
+    match toml_fault(alloc, text) {
+        Some(fault) => fault.why,
+        None => text_of(rt, alloc, ""),
     }
 }
 
 #[test]
 fn a_text_that_is_not_toml_has_a_line(rt: HostRuntime) {
     have_lines(&rt, rt.alloc(), &NO_TOML);
-    same(&rt, toml_line(rt.alloc(), b"bound = 1\n"), None);
+    same(&rt, line_of(rt.alloc(), b"bound = 1\n"), None);
+    let why = why_of(&rt, rt.alloc(), b"bound = 1\nbound = 2\n");
+    same(&rt, why.as_str(), "duplicate key");
 }
 
 // Logs: the plan that was asked for, how many marks, the width of each minute's first mark, and of those after it in turn, and the
 // unit in microseconds: 1000 for milliseconds. PTB gives DCF77 marks of 100 and 200 ms, NPL gives MSF marks of 100, 200, 300 and
 // 500 ms, and NIST gives WWVB marks of 200, 500 and 800 ms.
-const LOGS: &str = "dcf 120 100 100,200 1|look like milliseconds; the log wants microseconds
+const LOGS: &str = "dcf 120 100 100,200 1|widths look like milliseconds; the log wants microseconds
 wwvb 120 800 200,500 1|look like milliseconds; the log wants microseconds
 dcf 5 999 999 1|look like milliseconds; the log wants microseconds
-dcf 120 1000 1000 1|those of no plan
+dcf 120 1000 1000 1|below those of any mark
+dcf 120 19999 19999 1|below those of any mark
+dcf 120 20000 20000 1|starts look like milliseconds, and widths like microseconds
+msf 120 300 100,200 1000|look like those of --plan dcf
+dcf 120 165 165,265 1000|look like those of this plan, each some 30 to 100 ms too long
+msf 120 565 165,265,365 1000|look like those of this plan, each some 30 to 100 ms too long
+wwvb 120 865 265,565 1000|look like those of this plan, each some 30 to 100 ms too long
+msf 120 165 165,265 1000|those of no plan
+dcf 120 35 35,135 1000|look like those of this plan, each some 30 to 100 ms too short
+msf 120 435 35,135,235 1000|look like those of this plan, each some 30 to 100 ms too short
+wwvb 120 735 135,435 1000|look like those of this plan, each some 30 to 100 ms too short
+dcf 120 900 900,800 1000|give edges_to_log.py --low
+dcf 120 500 900,800,700,900 1000|give edges_to_log.py --low
+msf 120 500 900,800,700,900 1000|give edges_to_log.py --low
+wwvb 120 200 800,500,800,800 1000|give edges_to_log.py --low
+wwvb 120 800 200,500,200,200 1000|look like those of this plan, but no minute has them all
 msf 120 100 100,200 1000|look like those of --plan dcf
 wwvb 120 100 100,200 1000|look like those of --plan dcf
 dcf 120 130 130,230 1000|look like those of this plan, but no minute has them all
@@ -232,7 +358,7 @@ msf 120 500 100,200,300,100 1000|look like those of this plan
 dcf 120 800 200,500,200,800 1000|look like those of --plan wwvb
 msf 120 800 200,500,200,200,200,500,200,500,800 1000|look like those of --plan wwvb
 wwvb 120 800 200,500,200,800 1000|look like those of this plan
-dcf 120 900 900,800 1000|those of no plan
+dcf 120 610 610,680 1000|those of no plan; it is noise
 dcf 120 100 100,100,100,100,200,100,200,100,640,100 1000|look like those of this plan
 dcf 120 100 100,640,100,100,200,100,200,100,640,100 1000|those of no plan
 dcf 58 100 100,200 1000|fewer marks than a minute has
@@ -261,7 +387,8 @@ fn log_of(rt: &impl Abort, alloc: Global, row: &str) -> String {
     let mut log = String::new(alloc);
     for mark in 0..number(row, 1) {
         let width = width(row, mark).saturating_mul(number(row, 4));
-        let line = format!(in alloc; "{mark} {width}\n").expect(rt, "no memory");
+        let start = mark.saturating_mul(number(row, 4)).saturating_mul(1000);
+        let line = format!(in alloc; "{start} {width}\n").expect(rt, "no memory");
         log.push_str(line.as_str()).expect(rt, "no memory");
     }
     log
@@ -287,20 +414,227 @@ fn a_log_without_minute_has_a_hint(rt: HostRuntime) {
     look_at_logs(&rt, rt.alloc(), LOGS);
 }
 
-// A log of these widths looks as if it were in nanoseconds, or does not.
-fn is_in_nanoseconds(rt: &impl Abort, alloc: Global, shape: &str, wanted: bool) {
-    let log = log_of(rt, alloc, shape);
-    let found = bad_line_text(alloc, log.as_str().as_bytes()).is_some();
-    same_for(rt, &shape, found, wanted);
+// Lines of a log behind one that starts at 1000000, as docs/FORMATS.md judges them: the line, and a text of the one condition that it
+// does not meet. `~` stands for a line that has no line feed, and `!` for a carriage return.
+const LINES: &str = "|it is empty
+!|a carriage return stands at its end
+2000000 100000!|a carriage return stands at its end
+2000000 100000!3000000 100000|a carriage return stands in it
+12.345678901 rising gpiochip0 17|it is an edge of a receiver; edges_to_log.py
+event: FALLING EDGE offset: 17 timestamp: [    12.345678901]|it is an edge of a receiver
+# at width|a log has no remarks
+-5 100000|a number is negative
+2000000 -5|a number is negative
+2000000,100000|a comma or a semicolon stands in it
+2000000; 100000|a comma or a semicolon stands in it
+2.5 100000|a number is not whole
+2000000 100.5|a number is not whole
+2026-01-01T00:00:02 100000|it has a byte that is no digit and no space
+0x1e8480 100000|it has a byte that is no digit and no space
++2000000 100000|it has a byte that is no digit and no space
+ 2000000 100000|a space stands at its beginning
+2000000 100000 |a space stands at its end
+2000000  100000|two spaces stand in it
+2000000|it has one number
+2000000 100000 1|it has more than two numbers
+02000000 100000|a number has a leading zero
+2000000 0100000|a number has a leading zero
+2000000 00|a number has a leading zero
+3000000 3100000|it looks like START END
+3000000 5000000|it looks like START END
+3000000 5000001|its width is above 2000000
+100000 2000001|it looks like START END
+100000 4514523738|it looks like WIDTH START
+2000000000 100000000|its width looks like nanoseconds
+1767261605000000000 200000000|its width looks like nanoseconds
+2000001 39999999|its width is above 2000000
+3000000 40000000|its width looks like nanoseconds
+3000000 1000000000|its width looks like nanoseconds
+3000000 1000000001|its width is above 2000000
+1125899906842624 100000|its start is 2^50 (1125899906842624) or more
+1767261605000000 100000|its start is 2^50 (1125899906842624) or more, as a Unix time
+99999999999999999999 1|its start is 2^50
+1125899906842623 100000|
+2000000 0|its width is 0
+2000000 2000000|
+3000000 99999999999999999999|its width is above 2000000
+1000000 100000|its start is not above that of the line before
+999999 100000|its start is not above that of the line before
+1000001 100000|
+2000000 100000~|the file ends before its line feed
+2000000 100000!~|a carriage return stands at its end
+2000000 1000001234567890123456|it has 32 bytes or more
+2000000 100000123456789012345|its width is above 2000000";
+
+// The line of a row as it stands in a file, and whether it has its line feed.
+fn line_in(rt: &impl Abort, alloc: Global, text: &str) -> (String, bool) {
+    let mut line = String::new(alloc);
+    let mut has_end = true;
+    for letter in text.chars() {
+        match letter {
+            '!' => line.push('\r').expect(rt, "no memory"),
+            '~' => has_end = false,
+            _ => line.push(letter).expect(rt, "no memory"),
+        }
+    }
+    (line, has_end)
+}
+
+// Looks at a row of a line and a text of what is wrong with it, with `|` between them; the text is empty where nothing is.
+fn look_at_line(rt: &impl Abort, alloc: Global, row: &str) {
+    let (text, wanted) = row.split_once('|').unwrap_or((row, "?"));
+    let (line, has_end) = line_in(rt, alloc, text);
+    let found = log_fault(line.as_str().as_bytes(), has_end, Some(1_000_000)).unwrap_or("");
+    has_text(rt, row, found, wanted);
+    same_for(rt, &row, found.is_empty(), wanted.is_empty());
 }
 
 #[test]
-fn a_bad_line_may_be_in_nanoseconds(rt: HostRuntime) {
+fn a_bad_line_of_a_log_has_one_condition(rt: HostRuntime) {
+    for row in LINES.split('\n') {
+        look_at_line(&rt, rt.alloc(), row);
+    }
+    same(&rt, log_fault(b"0 1", true, None), None);
+    let mark = log_fault(b"\xef\xbb\xbf2000000 100000", true, None).unwrap_or("");
+    has_text(&rt, "a mark", mark, "a byte order mark stands before it");
+    let wide = log_fault(b"\xff\xfe2\0", true, None).unwrap_or("");
+    has_text(&rt, "wide", wide, "it is UTF-16");
+    let odd = log_fault(b"2000000\0100000", true, None).unwrap_or("");
+    has_text(&rt, "a zero", odd, "no digit and no space");
+}
+
+// Rows of a leap second file behind `3644697600 36`, as docs/FORMATS.md judges them.
+const ROWS: &str = "odd|a row has two numbers
+3692217600|a row has two numbers
+3692217600 x|a row has two numbers
+3692217600 37 x|after its two numbers only a remark may stand
+3692217600 37x|after its two numbers only a remark may stand
+6311606400 37|its second is 6311606400 (2100-01-03) or more
+99999999999999999999 37|a row has two numbers
+3692217600 256|its difference is above 255
+3644697600 37|its second is not above that of the row before
+3644697599 37|its second is not above that of the row before
+3692217600 38|its difference is not one more than that of the row before
+3692217600 36|its difference is not one more than that of the row before
+3692217601 37 # x|its second begins no month of UTC
+3692217601\t 37!|its second begins no month of UTC";
+
+// Looks at a row of a line and a text of what is wrong with it.
+fn look_at_row(rt: &impl Abort, alloc: Global, row: &str) {
+    let (text, wanted) = row.split_once('|').unwrap_or((row, "?"));
+    let (line, _) = line_in(rt, alloc, text);
+    let before = LeapRow {
+        second: 3_644_697_600,
+        difference: 36,
+    };
+    let found = row_fault(line.as_str().as_bytes(), Some(before));
+    has_text(rt, row, found, wanted);
+}
+
+#[test]
+fn a_bad_row_of_a_leap_second_file_has_one_condition(rt: HostRuntime) {
+    for row in ROWS.split('\n') {
+        look_at_row(&rt, rt.alloc(), row);
+    }
+    has_text(
+        &rt,
+        "the first",
+        row_fault(b"3692217601 37", None),
+        "no month",
+    );
+}
+
+// What a seeker shows of the line of this number, whose file comes in pieces of this many bytes, and whether it has its line feed.
+fn shown_of(
+    rt: &impl Abort,
+    alloc: Global,
+    file: &[u8],
+    number: u64,
+    most: usize,
+) -> (String, bool) {
+    let mut seeker = LineSeeker::new(number);
+    for piece in file.chunks(most.max(1)) {
+        seeker.take(piece);
+    }
+    (
+        seeker.shown(alloc).expect(rt, "no memory"),
+        seeker.has_found(),
+    )
+}
+
+fn is_shown(rt: &impl Abort, alloc: Global, file: &[u8], number: u64, wanted: (&str, bool)) {
+    for most in 1..9usize {
+        let (shown, has_found) = shown_of(rt, alloc, file, number, most);
+        same_for(rt, &most, (shown.as_str(), has_found), wanted);
+    }
+}
+
+#[test]
+fn a_line_is_found_by_its_number(rt: HostRuntime) {
     let alloc = rt.alloc();
-    is_in_nanoseconds(&rt, alloc, "dcf 120 100 100,200 1000000", true);
-    is_in_nanoseconds(&rt, alloc, "dcf 1 10000001 1 1", true);
-    is_in_nanoseconds(&rt, alloc, "dcf 1 10000000 1 1", false);
-    is_in_nanoseconds(&rt, alloc, "wwvb 120 800 200,500 1000", false);
+    is_shown(&rt, alloc, b"1 2\n3 4\n5 6\n", 1, ("1 2", true));
+    is_shown(&rt, alloc, b"1 2\n3 4\n5 6\n", 2, ("3 4", true));
+    is_shown(&rt, alloc, b"1 2\n3 4\n5 6", 3, ("5 6", false));
+    is_shown(&rt, alloc, b"\xef 1\t2\r\n", 1, ("? 1\\t2\\r", true));
+    let forty: &[u8] = b"1234567890123456789012345678901234567890\n";
+    let text = "1234567890123456789012345678901234567890";
+    is_shown(&rt, alloc, forty, 1, (text, true));
+    let more: &[u8] = b"12345678901234567890123456789012345678901\n";
+    let text = "1234567890123456789012345678901234567890..";
+    is_shown(&rt, alloc, more, 1, (text, true));
+}
+
+// What is wrong with the line of this number of a log.
+fn fault_at(file: &[u8], number: u64) -> Option<&'static str> {
+    let mut seeker = LineSeeker::new(number);
+    seeker.take(file);
+    seeker.log_fault()
+}
+
+#[test]
+fn a_line_is_judged_by_the_one_before(rt: HostRuntime) {
+    let log: &[u8] = b"1000000 100000\n2000000 100000\n2000000 100000\n";
+    same(&rt, fault_at(log, 2), None);
+    let found = fault_at(log, 3).unwrap_or("");
+    has_text(&rt, "equal", found, "not above that of the line before");
+    let mut seeker = LineSeeker::new(4);
+    seeker.take(b"3644697600 36\n# x\n\n3692217600 38\n");
+    has_text(&rt, "a list", seeker.leap_fault(), "not one more than");
+    let mut seeker = LineSeeker::new(1);
+    seeker.take(b"j2 1 0 0 1 lone 2\r\n");
+    has_text(
+        &rt,
+        "a journal",
+        seeker.plain_fault().unwrap_or(""),
+        "carriage return",
+    );
+    let mut seeker = LineSeeker::new(1);
+    seeker.take(b"0 1 lone 2");
+    has_text(
+        &rt,
+        "its end",
+        seeker.plain_fault().unwrap_or(""),
+        "before its line feed",
+    );
+    let mut seeker = LineSeeker::new(1);
+    seeker.take(b"0 1 lone x\n");
+    same(&rt, seeker.plain_fault(), None);
+}
+
+#[test]
+fn a_run_that_serves_says_what_it_waits_for(rt: HostRuntime) {
+    let alloc = rt.alloc();
+    let mut ports = Vec::new(alloc);
+    ports.push(123u16).expect(&rt, "no memory");
+    let mut pipes = Vec::new(alloc);
+    pipes
+        .push(text_of(&rt, alloc, "dcf.fifo"))
+        .expect(&rt, "no memory");
+    let beginning = Beginning { ports, pipes };
+    let found = format!(in alloc; "{beginning}").expect(&rt, "no memory");
+    let text = "radio_ntpd: dcf.fifo is a FIFO: its opening waits for a writer
+radio_ntpd: serves port 123 once all files are open; standard output follows at the end\n";
+    same(&rt, found.as_str(), text);
 }
 
 // A writer that takes at most `most` bytes a call.
@@ -349,37 +683,47 @@ fn the_last_whole_line_is_kept(rt: HostRuntime) {
     writes(&rt, &mut watched, b"c\n", 2, "abc");
 }
 
-// Lines of an output, and whether one of them is a minute.
-const OUTPUTS: [(&str, bool); 6] = [
-    ("0 67000606 lone 4004773200\n", true),
-    ("0 127001445 verdict 4004773260 0\n", true),
-    ("0 187000000 refused 2\n", false),
-    (
-        "0 247000000 differs 4004773320 4004773380 60000000\n",
-        false,
-    ),
-    ("status 0\n", false),
-    ("", false),
+// Lines of an output, and which minutes they are.
+const OUTPUTS: [(&str, Minutes); 8] = [
+    ("0 67000606 lone 4004773200\n", Minutes::Some),
+    ("0 127001445 verdict 4004773260 0\n", Minutes::Agree),
+    ("0 187000000 refused 2\n", Minutes::None),
+    (DIFFERS, Minutes::None),
+    (TWO_DIFFER, Minutes::Some),
+    (THREE_DIFFER, Minutes::Differ),
+    ("status 0\n", Minutes::None),
+    ("", Minutes::None),
 ];
 
-// After these bytes between two other lines, a minute is remembered or not.
-fn is_remembered(rt: &impl Abort, line: &str, is_minute: bool) {
-    let mut watched = watched(100);
+const DIFFERS: &str = "0 247000000 differs 4004773320 4004773380 60000000\n";
+
+const TWO_DIFFER: &str = "0 7 lone 4004773200
+0 247000000 differs 4004773320 4004773380 60000000
+0 307000000 differs 4004773320 4004773380 60000000\n";
+
+const THREE_DIFFER: &str = "0 7 lone 4004773200
+0 247000000 differs 4004773320 4004773380 60000000
+0 307000000 differs 4004773320 4004773380 60000000
+0 367000000 differs 4004773320 4004773380 60000000\n";
+
+// After these bytes between two other lines, this is remembered of them.
+fn is_remembered(rt: &impl Abort, lines: &str, minutes: Minutes) {
+    let mut watched = watched(200);
     is_written(rt, &mut watched, b"0 7000000 refused 0\n");
-    is_written(rt, &mut watched, line.as_bytes());
+    is_written(rt, &mut watched, lines.as_bytes());
     is_written(rt, &mut watched, b"status 0\n");
-    let found = (watched.has_minute(), watched.last_line());
-    same_for(rt, &line, found, (is_minute, "status 0"));
+    let found = (watched.minutes(), watched.last_line());
+    same_for(rt, &lines, found, (minutes, "status 0"));
 }
 
-fn are_remembered(rt: &impl Abort, outputs: &[(&str, bool)]) {
-    for (line, is_minute) in outputs {
-        is_remembered(rt, line, *is_minute);
+fn are_remembered(rt: &impl Abort, outputs: &[(&str, Minutes)]) {
+    for (lines, minutes) in outputs {
+        is_remembered(rt, lines, *minutes);
     }
 }
 
 #[test]
-fn a_minute_that_was_written_is_remembered(rt: HostRuntime) {
+fn minutes_that_were_written_are_remembered(rt: HostRuntime) {
     are_remembered(&rt, &OUTPUTS);
 }
 
