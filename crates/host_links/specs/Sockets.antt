@@ -1,6 +1,6 @@
 -- What a socket of datagrams gives and takes, and what a link makes of it. The rules of the calls are those of Rust's `recv_from`
 -- and `send_to`: https://doc.rust-lang.org/std/net/struct.UdpSocket.html
-use Rattle.std.specs.Prelude.{◌≡◌, ◌==◌, ◌<◌, ◌⊎◌, ℕ, max, min, ◌+◌, ◌-◌, ◌^◌, Bool, true, false, IsTrue, Option, None, Some, is_none, MatchOption, Result, MatchResult, List, [], ◌∷◌, ◌++◌, length, take, if◌then◌else◌}
+use Rattle.std.specs.Prelude.{◌≡◌, ◌==◌, ◌<◌, ◌≤◌, ◌⊎◌, ℕ, max, min, ◌+◌, ◌-◌, ◌^◌, Bool, true, false, IsTrue, Option, None, Some, is_none, MatchOption, Result, MatchResult, List, [], ◌∷◌, ◌++◌, length, take, if◌then◌else◌}
 use Rattle.std.specs.List.{list_all}
 use Rattle.std.specs.IoError.{error_kind}
 use Rattle.std.specs.declared.io.ErrorKind.{ErrorKind}
@@ -16,6 +16,8 @@ use Rattle.feed_link.specs.Told.{Adds}
 use Rattle.feed_link.specs.declared.outside.Address.{Address}
 use Rattle.feed_link.specs.declared.link.Hearing.{Hearing}
 use Rattle.feed_link.specs.declared.link.Hearing.TheVariants.{Datagram, Quiet, End}
+use Rattle.host_links.specs.declared.udp.Received.{Received}
+use Rattle.host_links.specs.declared.udp.Received.TheVariants.{Answerable, PassedOver, Nothing}
 
 -- The host has no way for a datagram, or may not send it there: no route, a network that is down, a firewall, an address to which
 -- nothing is sent. The datagram is then lost, as any may be.
@@ -85,6 +87,25 @@ pub record Repeats (test : Passed → Bool) (before now : Option (List Passed)) 
   pub calls : List Passed
   pub all : IsTrue (list_all test calls)
   pub added : Adds before now calls
+
+-- one call gave a datagram that can be answered: its sender and how many of the piece's bytes it has
+pub record GivesAt (before now : Option (List Passed)) (from : Address) (count : ℕ) (piece : List ℕ) : Type 0 where
+  pub at : SocketAddr
+  pub sender : address_of at ≡ Some from
+  pub within : count ≤ length piece
+  pub last : Adds before now (Gave at (take count piece) ∷ [])
+
+-- one call gave nothing that can be answered
+pub record PassesOver (before now : Option (List Passed)) : Type 0 where
+  pub call : Passed
+  pub over : is_passed_over call ≡ true
+  pub added : Adds before now (call ∷ [])
+
+-- what one call gave; its time ran out only where it gave none
+abbrev pub GivesOnce : Option (List Passed) → Option (List Passed) → Received → List ℕ → Type 0
+GivesOnce before now (Answerable from count) piece = GivesAt before now from count piece
+GivesOnce before now PassedOver piece = PassesOver before now
+GivesOnce before now Nothing piece = Adds before now (GaveNone ∷ [])
 
 -- after calls that are passed over, a datagram that can be answered: its sender and how many of the piece's bytes it has
 pub record Gives (before now : Option (List Passed)) (from : Address) (count : ℕ) (piece : List ℕ) : Type 0 where

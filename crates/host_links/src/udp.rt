@@ -4,7 +4,7 @@ ghost use Rattle.std.specs.Duration.{as_nanos};
 ghost use Rattle.feed_link.specs.Faults.{RoseByOne, HasCause};
 ghost use Rattle.feed_link.specs.Links.{Hears, IsDeaf, TellsMoment, Sends};
 ghost use Rattle.host_links.specs.Real.{socket_state, file_number};
-ghost use Rattle.host_links.specs.Sockets.{Passed, Receives, Transmits, Gives, GivesNone, GivesHearing, IsFor, Posts, Repeats, address_of, is_lost, is_passed_over, is_sent_again, moment_of};
+ghost use Rattle.host_links.specs.Sockets.{Passed, Receives, Transmits, Gives, GivesNone, GivesHearing, GivesOnce, PassesOver, IsFor, Posts, Repeats, address_of, is_lost, is_passed_over, is_sent_again, moment_of};
 
 use feed_link::{Address, Arrival, Failed, Hearing, Link};
 use std::io::{self, ErrorKind};
@@ -80,16 +80,16 @@ impl<'a, R: Clock> Counter<'a, R> {
     }
 }
 
-// A duration in whole microseconds.
-fn whole_microseconds(elapsed: Duration) -> u64
+/// A duration in whole microseconds.
+pub fn whole_microseconds(elapsed: Duration) -> u64
     ensures { result ≡ min (as_nanos elapsed / 1_000) (2 ^ 64 - 1) }
 {
     u64::try_from(elapsed.as_micros()).unwrap_or(u64::MAX)
 }
 
-// The moment of a counter that was at `start` this many microseconds ago. It is the latest one again where nothing can read the
-// counter, or where it has stood still.
-fn moment_at(start: Local, latest: Local, counted: Option<u64>) -> Local
+/// The moment of a counter that was at `start` this many microseconds ago. It is the latest one again where nothing can read the
+/// counter, or where it has stood still.
+pub fn moment_at(start: Local, latest: Local, counted: Option<u64>) -> Local
     ensures { result ≡ moment_of start latest counted }
 {
     let Some(counted) = counted else {
@@ -165,6 +165,39 @@ fn is_of_another(kind: ErrorKind) -> bool {
         )
 }
 
+/// What one call of a socket gave.
+#[derive(Drop)]
+pub enum Received {
+    /// A datagram that can be answered: its sender, and how many bytes of it were received.
+    Answerable(Address, usize),
+    /// A datagram that cannot be answered, an error of an earlier datagram, or an interruption.
+    PassedOver,
+    /// The socket's time ran out.
+    Nothing,
+}
+
+/// Calls a socket once for a datagram.
+pub fn receive_once<S: DatagramSocket>(
+    socket: &mut S,
+    piece: &mut [u8],
+) -> Result<Received, Failed>
+    ensures { MatchResult result
+        (λ received. GivesOnce (S.passed socket.old) (S.passed socket.new) received piece.new)
+        (λ _. PassesOver (S.passed socket.old) (S.passed socket.new)) }
+{
+    match socket.receive(piece) {
+        Ok((length, from)) => match sender(from) {
+            Some(from) => Ok(Received::Answerable(from, length)),
+            None => Ok(Received::PassedOver),
+        },
+        Err(e) if e.kind() == ErrorKind::WouldBlock || e.kind() == ErrorKind::TimedOut => {
+            Ok(Received::Nothing)
+        }
+        Err(e) if is_of_another(e.kind()) => Ok(Received::PassedOver),
+        Err(_) => Err(Failed),
+    }
+}
+
 // Waits for a datagram that can be answered. Returns its sender and how many bytes of it were received, or None where the
 // socket's time ran out.
 #[tactic(auto, using(crate::proofs::SocketLaws::no_call, crate::proofs::SocketLaws::one_more))]
@@ -180,16 +213,11 @@ fn hear_some<S: DatagramSocket>(
         (λ _. Repeats is_passed_over (S.passed socket.old) (S.passed socket.new)) }
 {
     for _ in 0..u64::MAX {
-        match socket.receive(piece) {
-            Ok((length, from)) => match sender(from) {
-                Some(from) => return Ok(Some((from, length))),
-                None => {}
-            },
-            Err(e) if e.kind() == ErrorKind::WouldBlock || e.kind() == ErrorKind::TimedOut => {
-                return Ok(None);
-            }
-            Err(e) if is_of_another(e.kind()) => {}
-            Err(_) => return Err(Failed),
+        match receive_once(socket, piece) {
+            Ok(Received::Answerable(from, length)) => return Ok(Some((from, length))),
+            Ok(Received::PassedOver) => {}
+            Ok(Received::Nothing) => return Ok(None),
+            Err(Failed) => return Err(Failed),
         }
     }
     Err(Failed)

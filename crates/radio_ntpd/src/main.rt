@@ -20,12 +20,13 @@ use radio_engine::{Status, end_without_memory, run_station};
 use radio_receiver::{DcfReceiver, MsfReceiver, Receiver, WwvbReceiver};
 use receiver_rack::put_in_rack;
 use run_report::{write_beginning, write_report};
+use service_links::{ServiceOutside, handed_over, write_reason};
 use standard_error::Watched;
 use std::alloc::{AllocError, Global};
 use std::fs::{self, Files};
 use std::io::IsTerminal;
 use std::os::fd::AsRawFd;
-use std::process::ExitCode;
+use std::process::{self, ExitCode};
 use std::sync::Wait;
 use std::thread::Threads;
 use std::{env, io};
@@ -33,7 +34,6 @@ use tick_units::Plan;
 
 fn main(rt: HostRuntime) -> ExitCode {
     let _standard = hold_standard_streams(&rt);
-    let mut outside = HostOutside::new(&rt);
     let mut out = StreamSink::new(Watched::new(io::writer(&rt)));
     let all = env::args(&rt);
     let are_text = all.is_ok();
@@ -41,6 +41,14 @@ fn main(rt: HostRuntime) -> ExitCode {
     if rt.stderr().is_terminal() {
         write_beginning(&rt, &words);
     }
+    if let Some(handed) = handed_over(&rt, process::id(rt.process())) {
+        let mut outside = ServiceOutside::new(&rt, &handed);
+        let code = run_program(&rt, rt.alloc(), &words, &mut outside, &mut out);
+        write_report(&rt, &words, are_text, outside.refusal(), out.stream());
+        write_reason(&rt, &outside);
+        return code;
+    }
+    let mut outside = HostOutside::new(&rt);
     let code = run_program(&rt, rt.alloc(), &words, &mut outside, &mut out);
     write_report(&rt, &words, are_text, outside.refusal(), out.stream());
     code
