@@ -24,7 +24,7 @@ TOP = Path(__file__).resolve().parent.parent
 LANES = (
     ("checks/keeper.sh",),
     ("checks/feeders.sh", "checks/tools.sh", "checks/torture.sh 300 15"),
-    ("checks/keeper_tests.sh", "checks/model.sh", "checks/python.sh"),
+    ("checks/keeper_tests.sh", "checks/model.sh", "checks/service.sh", "checks/python.sh"),
     ("checks/examples.sh", "checks/messages.sh", "checks/serve.sh", "checks/clients.sh", "checks/hostile.sh", "checks/fifo.sh"),
 )
 ENDS = 10.0  # for a check that was told to end, in seconds

@@ -10,5 +10,6 @@ mod udp;
 pub use host::{HostOutside, Refusal};
 pub use real::{FileSource, StreamSink};
 pub use udp::{
-    Counter, DatagramSocket, Received, UdpLink, moment_at, receive_once, send_whole, whole_microseconds,
+    Counter, DatagramSocket, Received, UdpLink, moment_at, receive_once, send_whole,
+    whole_microseconds,
 };

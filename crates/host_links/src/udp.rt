@@ -177,10 +177,7 @@ pub enum Received {
 }
 
 /// Calls a socket once for a datagram.
-pub fn receive_once<S: DatagramSocket>(
-    socket: &mut S,
-    piece: &mut [u8],
-) -> Result<Received, Failed>
+pub fn receive_once<S: DatagramSocket>(socket: &mut S, piece: &mut [u8]) -> Result<Received, Failed>
     ensures { MatchResult result
         (λ received. GivesOnce (S.passed socket.old) (S.passed socket.new) received piece.new)
         (λ _. PassesOver (S.passed socket.old) (S.passed socket.new)) }

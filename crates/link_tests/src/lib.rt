@@ -11,6 +11,8 @@ mod planned_tests;
 #[cfg(test)]
 mod real_tests;
 #[cfg(test)]
+mod service_tests;
+#[cfg(test)]
 mod udp_tests;
 #[cfg(test)]
 mod unit_tests;

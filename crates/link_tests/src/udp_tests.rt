@@ -12,11 +12,11 @@ use std::thread;
 use std::time::{Clock, Duration};
 use tick_units::Local;
 
-fn moment(microseconds: u32) -> Local {
+pub(crate) fn moment(microseconds: u32) -> Local {
     Local::new(u64::from(microseconds)).unwrap()
 }
 
-fn loopback(port: u16) -> SocketAddr {
+pub(crate) fn loopback(port: u16) -> SocketAddr {
     SocketAddr::new(IpAddr::V4(Ipv4Addr::LOCALHOST), port)
 }
 
@@ -338,12 +338,12 @@ fn a_host_says_why_it_refused(rt: HostRuntime) {
 
 // The client of a link: a socket of the host that waits for at most two seconds, and its address.
 #[derive(Drop)]
-struct Client {
-    socket: UdpSocket,
-    address: Address,
+pub(crate) struct Client {
+    pub(crate) socket: UdpSocket,
+    pub(crate) address: Address,
 }
 
-fn client_of(rt: &HostRuntime) -> io::Result<Client> {
+pub(crate) fn client_of(rt: &HostRuntime) -> io::Result<Client> {
     let mut socket = UdpSocket::bind(rt, loopback(0))?;
     socket.set_read_timeout(Some(Duration::from_secs(2)))?;
     let address = Address {
@@ -366,7 +366,7 @@ fn receives(rt: &impl Abort, client: &mut Client, bytes: &[u8]) -> SocketAddr {
 }
 
 // A client sends these bytes, all at once.
-fn transmits(rt: &impl Abort, client: &mut Client, to: SocketAddr, bytes: &[u8]) {
+pub(crate) fn transmits(rt: &impl Abort, client: &mut Client, to: SocketAddr, bytes: &[u8]) {
     same(
         rt,
         client.socket.transmit(to, bytes).ok(),

@@ -1,6 +1,6 @@
 -- When a link asks its server, and what the server's kiss codes change (RFC 5905, section 7.4). Moments and paces are in
 -- microseconds.
-use Rattle.std.specs.Prelude.{◌≡◌, ◌==◌, ◌||◌, ◌&&◌, ◌+◌, ◌-◌, ◌*◌, ℕ, min, max, nat_lt, nat_le, Bool, true, false, not, Option, None, Some, List, length, if◌then◌else◌}
+use Rattle.std.specs.Prelude.{◌==◌, ◌||◌, ◌&&◌, ◌-◌, ◌*◌, ℕ, min, max, nat_lt, Bool, true, false, Option, None, Some, List, length, if◌then◌else◌}
 use Rattle.ntp_packet.specs.Layout.{fields}
 use Rattle.ntp_packet.specs.declared.header.Header.{Header}
 use Rattle.tick_units.specs.declared.stamp.Stamp.{Stamp}

@@ -1,5 +1,5 @@
 -- What a supervisor's words ask of a run. A number is in decimal, without leading zeros.
-use Rattle.std.specs.Prelude.{◌≡◌, ◌≢◌, ◌==◌, ◌||◌, ◌≤◌, ℕ, Bool, true, false, Option, None, Some, List, [], ◌∷◌, ◌++◌, codes, decimal}
+use Rattle.std.specs.Prelude.{◌≡◌, ◌≢◌, ◌==◌, ◌||◌, ◌≤◌, ℕ, Bool, true, false, Option, None, Some, List, ◌++◌, codes, decimal}
 use Rattle.std.specs.List.{list_any}
 use Rattle.service_links.specs.declared.word.Word.{Word}
 use Rattle.service_links.specs.declared.word.Word.TheVariants.{Socket, Ask, Go, End, Pace}
