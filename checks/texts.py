@@ -1,6 +1,6 @@
 #!/usr/bin/env python3
-"""Compares docs/STANDARD_ERROR.md with the texts of crates/standard_error: each sentence of the page stands in the source, and each text
-of the source in the page. The ranges of a station's keys are compared with those of docs/FORMATS.md. It runs nothing.
+"""Compares docs/STANDARD_ERROR.md with the texts of crates/standard_error and of service_links: each sentence of the page stands in the
+source, and each text of the source in the page. The ranges of a station's keys are compared with those of docs/FORMATS.md. It runs nothing.
 
     checks/texts.py
 
@@ -67,7 +67,8 @@ def ranges(formats: str) -> list[str]:
 def main() -> int:
     argparse.ArgumentParser(description="Compares docs/STANDARD_ERROR.md with the texts of crates/standard_error.").parse_args()
     page = (TOP / "docs/STANDARD_ERROR.md").read_text(encoding="utf-8")
-    spoken = [*literals("fault.rt"), *literals("message.rt"), *literals("beginning.rt"), *literals("commands.rt"), *constants()]
+    held = [*literals("../../service_links/src/handed.rt"), *literals("../../service_links/src/outside.rt")]
+    spoken = [*literals("fault.rt"), *literals("message.rt"), *literals("beginning.rt"), *literals("commands.rt"), *constants(), *held]
     said = "\n".join(spoken)
     read = plain(page)
     wrong = [f"no text of the source has '{piece}'" for piece in sentences(page) if piece not in said]

@@ -1,0 +1,9 @@
+#!/bin/sh
+# Runs that a supervisor holds: how far the served time is from that of the log by CLOCK_MONOTONIC, at 30 starts on a quiet host and at 30
+# at a load of 16; and the instructions of a reply, beside those of a run that opens its own socket (valgrind). It takes some four minutes.
+#
+#     bench/service.sh
+. "$(dirname "$0")/built.sh"
+python3 -B "$top/bench/make_logs.py" --minutes 10 --jitter 0 "$work" > "$work/made"
+python3 -B "$top/bench/service_time.py" "$program" "$work/msf.log" || exit
+python3 -B "$top/bench/service_instructions.py" "$program"
