@@ -46,12 +46,14 @@ def instructions(program: str, folder: Path, is_held: bool, count: int) -> int:
     client.settimeout(0.2)
     answered = 0
     end = time.monotonic() + 120
-    while answered < count and time.monotonic() < end:
+    while answered < count and time.monotonic() < end and child.poll() is None:
         try:
             held.asked(client, port, answered + 1)
             answered += 1
         except (TimeoutError, ConnectionRefusedError):
             pass
+    if answered < count:
+        child.kill()
     _, told = child.communicate(timeout=60)
     found = re.search(r"Collected : (\d+)", told)
     if answered < count or found is None:

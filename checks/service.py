@@ -6,10 +6,11 @@ the built program.
 
 N changes from one run to the next, at so many requests a second (default 5 and 500). Each wait has
 a bound; the whole takes about half a minute. Exit status: 0 all as it should be, 1 something isn't,
-2 invalid arguments.
+2 invalid arguments, 130 stopped by SIGINT.
 """
 
 import argparse
+import os
 import socket
 import struct
 import subprocess
@@ -158,6 +159,9 @@ def main() -> int:
     parser.add_argument("--only", default="")
     words = parser.parse_args()
     program = str(Path(words.program).resolve())
+    if not os.access(program, os.X_OK):
+        print(f"service: {words.program} is no program", file=sys.stderr)
+        return 1
     cases = (begins, waits_untouched, ends, counter, pace, kisses, faults, systemd, killed, changes)
     bad = 0
     with tempfile.TemporaryDirectory() as name:
@@ -177,4 +181,7 @@ def main() -> int:
 
 
 if __name__ == "__main__":
-    sys.exit(main())
+    try:
+        sys.exit(main())
+    except KeyboardInterrupt:
+        sys.exit(130)
