@@ -18,6 +18,7 @@ import sys
 import tempfile
 import threading
 import time
+from collections.abc import Callable
 from pathlib import Path
 
 import held
@@ -162,7 +163,8 @@ def main() -> int:
     if not os.access(program, os.X_OK):
         print(f"service: {words.program} is no program", file=sys.stderr)
         return 1
-    cases = (begins, waits_untouched, ends, counter, pace, kisses, faults, systemd, killed, changes)
+    cases: tuple[Callable[..., str | None], ...] = (
+        begins, waits_untouched, ends, counter, pace, kisses, faults, systemd, killed, changes)
     bad = 0
     with tempfile.TemporaryDirectory() as name:
         for case in cases:
