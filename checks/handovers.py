@@ -65,6 +65,29 @@ def systemd(program: str, folder: Path) -> None:
     link.close()
 
 
+def plain(program: str, folder: Path) -> None:
+    """Without the variable a run opens its own port and ends by its hearings."""
+    link, one = bound(), held.client()
+    port = link.getsockname()[1]
+    link.close()
+    path = folder / "plain.toml"
+    path.write_text(station(port))
+    env = {name: value for name, value in os.environ.items() if name != "RADIO_NTPD_SERVICE"}
+    child = subprocess.Popen([program, "serve", "--station", str(path), "--during", "1"], env=env,
+                             stdout=subprocess.PIPE, stderr=subprocess.DEVNULL, text=True)
+    answered = False
+    for number in range(10):
+        try:
+            held.asked(one, port, number)
+            answered = True
+            break
+        except TimeoutError:
+            continue
+    said, _ = child.communicate(timeout=10)
+    need(answered and child.returncode == 0, f"a plain run ends with {child.returncode}")
+    need(" end count\n" in said, "the link of a plain run does not end by its hearings")
+
+
 class Asker(threading.Thread):
     """Asks at a rate until it is told to stop, and notes which requests were answered."""
 

@@ -22,7 +22,7 @@ from collections.abc import Callable
 from pathlib import Path
 
 import held
-from handovers import changes, faults, killed, systemd
+from handovers import changes, faults, killed, plain, systemd
 from held import (Held, Server, Wrong, asked, bound, client, client_ready, need, reply, station,
                   whole, with_time)
 
@@ -40,12 +40,16 @@ def is_silent(one: socket.socket) -> bool:
 
 
 def begins(program: str, folder: Path) -> None:
-    """What lay in the socket is answered once the run may begin, and not before."""
+    """What lay in the second of two sockets is answered once the run may begin, and not before; nor
+    is a server asked before.
+    """
     link, one = bound(), client()
     port = link.getsockname()[1]
     one.sendto(held.request(7), ("127.0.0.1", port))
-    run = Held(program, folder, station(port), sockets=(link,))
+    server = Server(lambda count, bytes_: [(0.0, reply(bytes_))])
+    run = Held(program, folder, station(port, server.port), "pace=60", sockets=(bound(), link))
     need(is_silent(one), "a request is answered before the beginning")
+    need(not server.times, "a server is asked before the beginning")
     run.give("go")
     need(one.recv(1024)[24:32] == struct.pack(">Q", 7), "what lay in the socket is not answered")
     whole(*run.end()[1:])
@@ -65,6 +69,20 @@ def waits_untouched(program: str, folder: Path) -> None:
     need(got == [struct.pack(">Q", n) for n in range(20)], "requests are gone before the beginning")
     whole(status, lines)
     need(took < 2 * LATEST, f"a run that has not begun ends after {took:.3f} s")
+
+
+def hears_silence(program: str, folder: Path) -> None:
+    """A silent hearing takes two seconds, also where the socket was told not to wait."""
+    link = bound()
+    link.setblocking(False)
+    run = Held(program, folder, station(link.getsockname()[1]), sockets=(link,), signals="end",
+               during=1)
+    begun = time.monotonic()
+    time.sleep(0.5)
+    link.setblocking(False)
+    status, lines, _ = run.ended()
+    took = time.monotonic() - begun
+    need(status == 0 and took >= 1.7, f"one hearing takes {took:.1f} s")
 
 
 def took_to_end(program: str, folder: Path, words: str, flood: bool, server: int | None) -> float:
@@ -164,7 +182,8 @@ def main() -> int:
         print(f"service: {words.program} is no program", file=sys.stderr)
         return 1
     cases: tuple[Callable[..., str | None], ...] = (
-        begins, waits_untouched, ends, counter, pace, kisses, faults, systemd, killed, changes)
+        begins, waits_untouched, hears_silence, ends, counter, pace, kisses, faults, systemd,
+        plain, killed, changes)
     bad = 0
     with tempfile.TemporaryDirectory() as name:
         for case in cases:
