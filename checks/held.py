@@ -2,6 +2,7 @@
 socket, the signals, a station of the example's MSF receiver, and a server that answers as told.
 """
 
+import atexit
 import contextlib
 import os
 import socket
@@ -85,6 +86,7 @@ class Held:
             [program, "serve", "--station", str(path), "--during", str(during)],
             env=os.environ | held, pass_fds=numbers,
             stdin=subprocess.DEVNULL, stdout=out, stderr=subprocess.PIPE, text=True)
+        atexit.register(self.child.kill)  # nothing where it has ended
         for signal in self.signals.values():
             signal.theirs.close()
 
