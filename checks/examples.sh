@@ -1,5 +1,5 @@
 #!/bin/sh
-# Runs the examples of README.md and docs/OPERATING.md, and compares their texts and statuses with what these pages say. The gate
+# Runs the examples of README.md, docs/OPERATING.md and docs/COMMANDS.md, and compares their texts and statuses with what these pages say. The gate
 # runs it after `rt ci`, on the program that it has built.
 #
 #     checks/examples.sh
@@ -63,7 +63,7 @@ wrote 'reply e40006ec'
 wrote 'reply 240106ec.*dc12c68680000000'
 wrote 'page 17 1 1 4d534600 15857951251850330112 963000000 '
 
-# README.md, docs/OPERATING.md ("Without a receiver") and docs/FORMATS.md
+# README.md, docs/COMMANDS.md ("Without a receiver") and docs/FORMATS.md
 ends 0 'status 0' drill --seed 7
 for feed in 0 1 2; do wrote "feed $feed verdict 1381 lone 30 differs 0 refused 29\$"; done
 wrote 'page 4320 1 1 4d534600 17099604805104220025 86407001877 152740009690 0 328 ed4f51800047ba4e 0 -2987$'

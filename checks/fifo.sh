@@ -1,7 +1,7 @@
 #!/bin/sh
 # Radios whose logs are pipes while `serve` runs: writers that die between two lines and in the middle of one, that stop in a line and go on,
 # that are slow, that write a bad line, and one that goes on where another died. What stands is what `decode` says of the bytes that were
-# written. Then signals while it serves, and while it writes its journal: what docs/OPERATING.md says of them. It takes some seconds.
+# written. Then signals while it serves, and while it writes its journal: what docs/COMMANDS.md says of them. It takes some seconds.
 #
 #     checks/fifo.sh
 set -u

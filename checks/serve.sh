@@ -1,6 +1,6 @@
 #!/bin/sh
 # Runs `serve` as it shouldn't go: logs, links and words that are wrong, an output that is closed, servers that are dead. Looks at how
-# each run ends and at what it has written, as docs/OPERATING.md says. What is due comes from the logs, the calendar, the other
+# each run ends and at what it has written, as docs/COMMANDS.md says. What is due comes from the logs, the calendar, the other
 # commands, and a model of the page in Python. Servers have free ports of 127.0.0.1. It takes a quarter of a minute.
 #
 #     checks/serve.sh

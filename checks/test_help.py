@@ -73,9 +73,9 @@ class Help(unittest.TestCase):
         after = re.search(r"Fl after \(0 to (\d+), by default none\)", manual)[1]
         self.assertEqual(hearings, (*during, "0"))
         self.assertEqual(after, during[0])
-        operating = " ".join(page("docs/OPERATING.md").split())
-        self.assertIn(f"`--during` hearings (by default {during[1]})", operating)
-        self.assertIn("`--after` more (by default none)", operating)
+        commands = " ".join(page("docs/COMMANDS.md").split())
+        self.assertIn(f"`--during` hearings (by default {during[1]})", commands)
+        self.assertIn("`--after` more (by default none)", commands)
         entries = re.search(r"ENTRIES   1 to (\d+), .*by default (\d+)", said).groups()
         self.assertEqual(entries, re.search(r"may have, 1 to (\d+), by default (\d+)", manual).groups())
         self.assertEqual(re.search(r"SEED      0 to (\d+)", said)[1], re.search(r"seed is 0 to (\d+)", manual)[1])

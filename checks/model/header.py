@@ -1,4 +1,4 @@
-"""The header of a packet (docs/PROTOCOL.md, "The header"; RFC 5905 section 7.3)."""
+"""The header of a packet (RFC 5905, section 7.3)."""
 
 import struct
 from typing import NamedTuple
