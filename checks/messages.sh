@@ -395,7 +395,7 @@ wait
 printf '[[link]]\nport = %s\n' "$port" > "$work/station"
 says 0 'status 0' '' serve --station "$work/station" --during 0
 
-# The borders of docs/STANDARD_ERROR.md: 50 ms, one of a hundred, and nine of ten of the first 256 reductions. Each COUNTxWIDTH is COUNT
+# The borders of docs/STANDARD_ERROR.md: 50 ms, 35 ms of widths 65 ms less, one of a hundred, and nine of ten of the first 256 reductions. Each COUNTxWIDTH is COUNT
 # marks of a width in milliseconds. Of 255 in the last row too few are of 500 ms, and of 257 too few are marks of MSF.
 borders() {
     text=$1
@@ -404,9 +404,11 @@ borders() {
     says 0 'status 0' "radio_ntpd: the log gave no minute: $text" decode --plan dcf --log "$work/log"
 }
 borders 'its marks look like those of this plan' 120x250
-borders 'its widths are those of no plan' 120x251
+borders 'its marks look like those of this plan, each some 30 to 100 ms too long' 120x251
+borders 'its marks look like those of this plan, each some 30 to 100 ms too long' 120x300
+borders 'its widths are those of no plan' 120x301
 borders 'its marks look like those of --plan msf' 99x100 1x500
-borders 'its widths are those of no plan' 149x100 1x500
+borders 'its marks look like those of this plan, each some 30 to 100 ms too short' 149x100 1x500
 borders 'its marks look like those of --plan msf' 228x100 25x900 3x500 100x900
 # The same with lines of 24 bytes and a line feed: 256 of them are looked at too.
 echo '228x100 25x900 3x500 100x900' | tr ' x' '\n ' | awk '{ for (i = 0; i < $1; i++) printf "1000%012d %d\n", ++mark * 1000000, $2 * 1000 }' > "$work/log"
