@@ -74,7 +74,7 @@ def _links(state: State, now: float) -> list[tuple[Level, str]]:
         elif seen - link.answered_at > SILENT:
             found.append((Level.CRITICAL, f"port {link.port} doesn't answer"))
         elif link.leap == 3:
-            why = "yet: a radio needs four verdicts" if now - state.keeper_since < NEW else f"({link.reference_id})"
+            why = "yet: a radio needs four to eight verdicts" if now - state.keeper_since < NEW else f"({link.reference_id})"
             found.append((Level.CRITICAL, f"port {link.port} has no time {why}"))
         elif link.root_dispersion >= WIDE * state.bound:
             found.append((Level.WARNING, f"port {link.port}: the root dispersion is {link.root_dispersion * 1e3:.0f} ms of {state.bound * 1e3:.0f} ms"))

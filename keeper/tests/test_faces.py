@@ -42,7 +42,7 @@ class Sentences(unittest.TestCase):
             self.says(Level.OK, "time from DCF", radio__spread=spread)
             self.says(Level.WARNING, f"DCF77 roof: no verdict for 1 h{more}", radio__spread=spread, radio__minute_at=NOW - 3601)
         self.says(Level.CRITICAL, "port 123 has no time (INIT)", link__leap=3, link__reference_id="INIT")
-        self.says(Level.CRITICAL, "port 123 has no time yet: a radio needs four verdicts", link__leap=3, keeper_since=NOW - 599)
+        self.says(Level.CRITICAL, "port 123 has no time yet: a radio needs four to eight verdicts", link__leap=3, keeper_since=NOW - 599)
         self.says(Level.WARNING, "the root dispersion is 250 ms of 500 ms", link__root_dispersion=0.25)
         self.says(Level.OK, "root dispersion 249.0 ms", link__root_dispersion=0.249)
         self.says(Level.WARNING, "DCF77 roof: its source is waiting", radio__source="waiting")
