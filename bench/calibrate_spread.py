@@ -16,7 +16,7 @@ from soft_receiver import MINUTE, SECOND, Faults, made_log
 
 sys.path.insert(0, str(pathlib.Path(__file__).resolve().parent.parent))
 from keeper.lateness import Minutes, result  # noqa: E402
-from keeper.reception import EPOCH  # noqa: E402
+from keeper.reporter.reception import EPOCH  # noqa: E402
 
 PLANS = ("dcf", "msf", "wwvb")
 LAG = 23_000  # of the receivers, in microseconds

@@ -26,7 +26,7 @@ if has chromium; then
     python3 -B -m keeper.tests.browser || wrong 'the page is not as it should be'
 fi
 if has promtool; then
-    python3 -B -c 'from keeper import metrics; from keeper.tests.test_faces import NOW, a_good_station; print(metrics.render(a_good_station(), NOW), end="")' > "$work/metrics" || wrong 'there are no metrics'
+    python3 -B -c 'from keeper.reporter import metrics; from keeper.tests.made_station import NOW, a_good_station; print(metrics.render(a_good_station(), NOW), end="")' > "$work/metrics" || wrong 'there are no metrics'
     promtool check metrics < "$work/metrics" > "$work/told" 2>&1 || wrong 'promtool refuses the metrics'
     [ ! -s "$work/told" ] || wrong "promtool says: $(head -n 5 "$work/told")"
 fi

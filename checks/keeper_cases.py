@@ -106,7 +106,7 @@ def killed(base: float) -> int:
         time.sleep(1.5)
         client = kept.client(base)
         for run in (2, 3):
-            os.kill(kept.state()["run"]["pid"], signal.SIGKILL)
+            os.kill(kept.serving(), signal.SIGKILL)
             kept.waits(f"run {run} has the time")
             time.sleep(1.5)
         looked = good(kept, client.report(), KILLED, 2)
@@ -132,7 +132,7 @@ def flood(base: float) -> int:
             out.connect(("127.0.0.1", kept.port))
             sent = 0
             # On a busy machine most of them find no room, so more may be needed.
-            while sent < FLOOD or (kept.text().count(") serves after") < 2 and time.monotonic() - began < WAIT):
+            while sent < FLOOD or (kept.text().count(") serves") < 2 and time.monotonic() - began < WAIT):
                 for _ in range(10_000):
                     try:
                         out.send(b"")
@@ -141,7 +141,7 @@ def flood(base: float) -> int:
                 sent += 10_000
         took = time.monotonic() - began
         time.sleep(3)
-        runs = kept.text().count(") serves after")
+        runs = kept.text().count(") serves")
         met = client.report()
         print(f"  flood of {sent} in {took:.1f} s, {runs} runs: {brief(met)}", flush=True)
         looked = due(met["wrong"] == 0, f"a client got a wrong time: {brief(met)}")

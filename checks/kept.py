@@ -171,7 +171,12 @@ class Kept:
         return json.loads((self.folder / "state/state.json").read_text())
 
     def journals(self) -> list[pathlib.Path]:
-        return sorted((self.folder / "state/journals").glob("*.journal"))
+        """In the order in which they were written."""
+        return sorted((self.folder / "state/journals").glob("*.journal"), key=lambda one: one.stat().st_mtime_ns)
+
+    def serving(self) -> int:
+        """The process that serves."""
+        return json.loads((self.folder / "state/service.json").read_text())["run"]["pid"]
 
     def stop(self, wait: float = 60) -> int:
         """SIGTERM, and its exit status."""

@@ -1,6 +1,6 @@
 #!/usr/bin/env python3
 """A radio beside servers on a counter that runs free, for a day, by `replay`: asked at the start alone, as `serve` does by itself, and one
-exchange in 16 s, as the keeper's relays let it. Says how far the time was off at most, and how far off it was reported to be.
+exchange in 16 s, as a run under the keeper has it. Says how far the time was off at most, and how far off it was reported to be.
 
     checks/pacing.py [--hours H] [--pace S]
 
@@ -29,7 +29,7 @@ BEGIN = datetime.datetime(2026, 1, 1, 12, 0)
 FIRST = int(BEGIN.replace(tzinfo=datetime.timezone.utc).timestamp()) + EPOCH
 ASKED_FROM = 270.0  # when the servers are asked first, in true seconds
 BURST = 8  # exchanges at the start without pacing, as a station's default has it
-FIRST_PACED = 4  # exchanges that a relay lets through at the start
+FIRST_PACED = 4  # exchanges at the start
 JITTER = 2000  # how late a mark of the radio comes at most, in microseconds
 WAY = 0.0002  # one way to a server, in seconds
 REQUEST = "230006ec" + "00" * 36 + "1122334455667788"

@@ -13,7 +13,7 @@ import time
 
 from kept import EPOCH, PLANS, Kept, Wrong, base_now, descendants, receiver
 from kept_bounds import SLOW
-from soak_report import RECEIVER, RELAYS, SERVER, Event, judge, lines, verdict
+from soak_report import RECEIVER, REPORTER, SERVER, Event, judge, lines, verdict
 
 FADE = 0.08  # the chance that a minute loses its carrier
 JITTER = 2  # of each mark, in milliseconds either way
@@ -63,12 +63,12 @@ def victims(kept: Kept, what: str) -> list[int]:
 
 
 def kill_in_turn(kept: Kept, turn: int) -> Event:
-    """Kills the server, a receiver, or the relays. Raises Wrong where there is none."""
-    kind = (SERVER, RECEIVER, RELAYS)[turn % 3]
+    """Kills the server, a receiver, or the reporter. Raises Wrong where there is none."""
+    kind = (SERVER, RECEIVER, REPORTER)[turn % 3]
     if kind is SERVER:
-        chosen = [kept.state()["run"]["pid"]]
+        chosen = [kept.serving()]
     else:
-        chosen = victims(kept, "receiver.py" if kind is RECEIVER else "keeper.relay")[:1]
+        chosen = victims(kept, "receiver.py" if kind is RECEIVER else "keeper.reporter")[:1]
     event = Event(kind, time.monotonic())
     try:
         os.kill(chosen[0], signal.SIGKILL)
@@ -82,7 +82,7 @@ def line(kept: Kept, met: dict, hours: float, kills: list[Event]) -> str:
     state = kept.state()
     radios = ", ".join(f"{one['plan']} {one['verdicts_hour']}/{one['minutes_hour']}" for one in state["radios"])
     spreads = " and ".join(f"{one[name] * 1e3:.2f}" for one in state["radios"] if one["steady"] for name in ("spread", "spread_given"))
-    servers = sum(1 for one in state["servers"] if time.time() - one["answered_at"] < 60)
+    servers = sum(1 for one in state["servers"] if time.time() - one["sample_at"] < 600)
     return (f"{hours:.2f} h: run {state['run']['number']}, {met['asked']} asked, {met['asked'] - met['answered']} without an answer, {met['answered'] - met['timed']} answered without the time, "
             f"longest {met['silent'] * 1000:.0f} and {met['untimed'] * 1000:.0f} ms, error {met['error'] * 1e3:.2f} ms, {met['wrong']} wrong; verdicts of the last hour {radios}; "
             f"{STEADY} spread {spreads} ms; {servers} servers answer; {len(kills)} kills; memory of the keeper {memory(kept.process.pid)} KB; "

@@ -23,10 +23,10 @@ class Kind:
 
 
 CHANGED = Kind("change of run", *CHANGE)
-SERVER, RECEIVER, RELAYS = Kind("kill of the server", *KILLED), Kind("kill of a receiver", *NOTHING), Kind("kill of the relays", *CHANGE)
-KILLS = (SERVER, RECEIVER, RELAYS)
+SERVER, RECEIVER, REPORTER = Kind("kill of the server", *KILLED), Kind("kill of a receiver", *NOTHING), Kind("kill of the reporter", *NOTHING)
+KILLS = (SERVER, RECEIVER, REPORTER)
 # Why a run begins, and by which kill alone that is as it should be.
-CAUSES = {"died": SERVER, "link": RELAYS}
+CAUSES = {"died": SERVER}
 
 
 @dataclass(frozen=True)

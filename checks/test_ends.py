@@ -79,11 +79,9 @@ CASES = [
     ("tools/measure_shape.py", "--top /nosuch", 1),
     ("bench/gate_time.py", "/nosuch", 127),
     ("bench/keeper.py", "x", 2),
-    ("bench/relay.py", "x", 2),
     ("checks/keeper_cases.py", "x", 2),
     ("checks/kept_client.py", "x", 2),
     ("checks/soak.py", "x", 2),
-    ("checks/keeper_firewall.py", "x", 2),
     ("checks/texts.py", "x", 2),
     ("checks/texts.py", "", 0),
 ]

@@ -88,7 +88,7 @@ class Checks(unittest.TestCase):
         """What is left out is said on docs/TESTING.md to be outside the gate, or serves other checks."""
         run = {Path(check.split()[0]).name for lane in lanes.LANES for check in lane}
         there = {path.name for path in HERE.glob("*.sh")}
-        outside = {"attacks.sh", "evening.sh", "faces.sh", "keeper_firewall.sh", "package.sh", "refuse-allocations.sh", "soak.sh", "units.sh"}
+        outside = {"attacks.sh", "evening.sh", "faces.sh", "package.sh", "refuse-allocations.sh", "soak.sh", "units.sh"}
         self.assertEqual(there - run, outside | {"serving.sh", "port_123.sh"})
         page = (HERE.parent / "docs" / "TESTING.md").read_text()
         for name in outside:

@@ -11,7 +11,7 @@ import unittest
 sys.dont_write_bytecode = True
 from kept_bounds import SLOW  # noqa: E402
 from kept_client import EPOCH, WHOLE, Client, Spans, Stalls  # noqa: E402
-from soak_report import CHANGED, RECEIVER, RELAYS, SERVER, Event, judge, lines, stalled_near, verdict  # noqa: E402
+from soak_report import CHANGED, RECEIVER, REPORTER, SERVER, Event, judge, lines, stalled_near, verdict  # noqa: E402
 
 BEGAN = 1000.0
 CYCLE = 600.0
@@ -32,7 +32,7 @@ class Verdicts(unittest.TestCase):
         report = self.judged()
         self.assertEqual(report.faults, [])
         self.assertEqual(verdict(report, 2.0)[:24], "soak passed: 2.00 hours,")
-        self.assertEqual([report.costs[one.name].events for one in (CHANGED, SERVER, RECEIVER, RELAYS)], [1, 1, 1, 0])
+        self.assertEqual([report.costs[one.name].events for one in (CHANGED, SERVER, RECEIVER, REPORTER)], [1, 1, 1, 0])
 
     def test_a_wrong_time_is_never_excused(self):
         report = self.judged(wrong=1, stalls=[(second, 9.0) for second in range(1000, 3000)])
@@ -89,15 +89,15 @@ class Verdicts(unittest.TestCase):
             with self.subTest(cause=cause):
                 report = self.judged({**RUNS, 4: (cause, 2501.0)})
                 self.assertEqual(report.faults, [f"run 4 began ({cause}), and nothing had been killed"])
-        self.assertEqual(self.judged({**RUNS, 4: ("link", 2801.0)}, [*KILLS, Event(RELAYS, 2800.0)]).faults, [])
-        self.assertEqual(len(self.judged({**RUNS, 4: ("died", 2801.0)}, [*KILLS, Event(RELAYS, 2800.0)]).faults), 1)
+        self.assertEqual(self.judged({**RUNS, 4: ("died", 2801.0)}, [*KILLS, Event(SERVER, 2800.0)]).faults, [])
+        self.assertEqual(len(self.judged({**RUNS, 4: ("died", 2801.0)}, [*KILLS, Event(REPORTER, 2800.0)]).faults), 1)
 
     def test_an_event_lasts_until_its_run_has_begun(self):
         """On a busy machine a run that ends may need half a minute until it is used up."""
-        runs, kills = {**RUNS, 4: ("link", 2830.0), 5: ("cycle", 3450.0)}, [*KILLS, Event(RELAYS, 2800.0)]
+        runs, kills = {**RUNS, 4: ("died", 2830.0), 5: ("cycle", 3450.0)}, [*KILLS, Event(SERVER, 2800.0)]
         report = self.judged(runs, kills, silences=[(at, 0.03, 3) for at in (2799.95, 2825.0, 2831.9, 3431.0)])
         self.assertEqual(report.faults, [])
-        self.assertEqual((report.costs[RELAYS.name].unanswered, report.costs[CHANGED.name].unanswered), (9, 3))
+        self.assertEqual((report.costs[SERVER.name].unanswered, report.costs[CHANGED.name].unanswered), (9, 3))
         report = self.judged(runs, kills, silences=[(at, 0.03, 3) for at in (2799.8, 2833.0, 3429.0, 3453.0)])
         self.assertEqual(len(report.faults), 4)
 

@@ -54,6 +54,7 @@ chmod +x "$host/usr/local/bin/receiver"
 cat > "$host/etc/radio_ntpd/keeper.toml" <<'TOML'
 station = "station.toml"
 state = "/var/lib/radio_ntpd"
+runtime = "/run/radio_ntpd"
 [[radio]]
 command = "receiver | /usr/lib/radio_ntpd/feeders/edges_to_log.py"
 TOML
@@ -150,6 +151,12 @@ done
 before=$(property MainPID)
 inside systemctl reload radio_ntpd || wrong "it can't be reloaded"
 has_time 'after a reload' 5
+cp "$host/etc/radio_ntpd/keeper.toml" "$work/keeper.toml"
+echo 'nosuch = 1' > "$host/etc/radio_ntpd/keeper.toml"
+inside systemctl reload radio_ntpd 2> "$work/reloaded" && wrong 'a reload of a refused file succeeds'
+cp "$work/keeper.toml" "$host/etc/radio_ntpd/keeper.toml"
+has_time 'after a reload that was refused' 5
+[ -z "$(inside cat "/proc/$before/status" | sed -n 's/^Cap[A-Za-z]*:\t0*\([1-9a-f]\)/\1/p')" ] || wrong 'the keeper has a capability'
 [ "$(property MainPID)" = "$before" ] || wrong 'a reload started another keeper'
 
 inside kill -STOP "$before"
@@ -161,7 +168,7 @@ until [ "$(property MainPID)" != "$before" ]; do
 done
 has_time 'a keeper that hung was ended' 30
 
-inside systemctl stop radio_ntpd || wrong "it can't be stopped"
+inside systemctl stop radio_ntpd.socket radio_ntpd || wrong "it can't be stopped"
 [ -z "$(inside pgrep -u radio_ntpd)" ] || wrong "after the stop there is $(inside pgrep -a -u radio_ntpd)"
 last=$(find "$host/var/lib/radio_ntpd/journals" -name '*.journal' | LC_ALL=C sort | tail -n 1)
 [ "$(tail -n 1 "$last")" = 'status 0' ] || wrong "the last journal ends with $(tail -n 1 "$last")"

@@ -10,13 +10,14 @@ from keeper.words import DONE, HOST, INTERRUPTED, USAGE, Fault, sentence
 
 COMMANDS = {
     "run": "keeps the station's server running",
+    "reload": "has it read both files anew",
     "status": "says how the station is",
     "watch": "the same, redrawn until it is interrupted",
     "check": "looks at both files, the host and the receivers before a start",
     "install": "installs the keeper as a service",
     "calibrate": "says which delay to set for a radio",
 }
-OF_THE_SERVICE = ("start", "stop", "restart", "reload", "enable", "disable")
+OF_THE_SERVICE = ("start", "stop", "restart", "enable", "disable")
 # `watch` is a way of `status`.
 MODULES = {"watch": "status"}
 
@@ -48,6 +49,8 @@ def dispatch(words: list[str]) -> int:
 def main(words: list[str]) -> int:
     """The exit status of these words; what goes wrong is one sentence on standard error."""
     name = " ".join(["radio_keeper", *words[:1]])
+    for one in ("PYTHONPATH", "PYTHONDONTWRITEBYTECODE"):
+        os.environ.pop(one, None)  # they are ours, and not of receivers' and alarms' commands
     try:
         told = dispatch(words)
         sys.stdout.flush()
@@ -90,6 +93,4 @@ def open_standard() -> None:
 
 if __name__ == "__main__":
     open_standard()
-    for name in ("PYTHONPATH", "PYTHONDONTWRITEBYTECODE"):
-        os.environ.pop(name, None)  # they are ours, and not of the receivers' commands
     sys.exit(main(sys.argv[1:]))

@@ -2,21 +2,21 @@
 
 import dataclasses
 import os
-import select
+import sys
 import time
 
 from keeper import config
 from keeper.check import keeper_runs
-from keeper.children import Guard
 from keeper.chosen_file import chosen
-from keeper.decoder import Decoder
 from keeper.hosts import become_service
 from keeper.lateness import LEAST, Minute, Minutes, result, sentences
-from keeper.lines import Lines
-from keeper.pulse_log import PulseLog, day_of
 from keeper.reference import HostClock, Server
-from keeper.say import say
-from keeper.source import Command, Ended, Fifo, Growing, source_of
+from keeper.reporter.decoder import Decoder
+from keeper.supervisor.clocks import counter, tag_of
+from keeper.supervisor.logs import PulseLog
+from keeper.supervisor.pulses import Lines
+from keeper.supervisor.real_host import RealHost
+from keeper.supervisor.sources import Ended, Source, source_of
 from keeper.words import DONE, NOT_WELL, Fault, Parser
 
 MINUTES = 60
@@ -78,32 +78,44 @@ def conclude(radio: config.Radio, minutes: list[Minute], reference: Server | Hos
 class Feed:
     """The lines of a radio: of its source, or of the log that a keeper writes while it runs."""
 
-    def __init__(self, settings: config.Settings, number: int, guard: Guard) -> None:
-        radio = settings.radios[number]
-        self.log = PulseLog(os.path.join(settings.folder, "logs"), number, radio.plan, settings.days, say) if keeper_runs(settings) else None
-        self.radio, self.guard = radio, guard
-        self.day = ""
-        self.source: Command | Fifo | Growing | None = None
+    def __init__(self, host: RealHost, settings: config.Settings, number: int) -> None:
+        self.host, self.radio, self.name = host, settings.radios[number], ""
+        self.log: PulseLog | None = None
+        if keeper_runs(settings):
+            folder = os.path.join(settings.folder, "logs")
+            tag = tag_of(counter(host), f"{self.radio.kind} {self.radio.value}")
+            self.log = PulseLog(host, folder, number, self.radio.plan, tag)
+        self.source: Source | None = None
+
+    def _open(self) -> Source:
+        self.name = self._name_now()
+        if self.log:
+            return source_of(self.host, "file", os.path.join(self.log.folder, self.name))
+        return source_of(self.host, self.radio.kind, self.radio.value)
+
+    def _name_now(self) -> str:
+        return self.log.name(time.time()) if self.log else ""
 
     def read(self) -> bytes:
         """What came, b"" for nothing. Raises OSError and Ended."""
         if self.source is None:
-            self.day = day_of(time.time())
-            self.source = source_of("file", self.log.path(self.day), self.guard) if self.log else source_of(self.radio.kind, self.radio.value, self.guard)
+            self.source = self._open()
             self.source.begin()
         piece = self.source.read()
-        if not piece and self.log and self.day != day_of(time.time()) and os.path.exists(self.log.path(day_of(time.time()))):
-            self.close()
+        if not piece and self.log and self.name != self._name_now():
+            if os.path.exists(os.path.join(self.log.folder, self._name_now())):
+                self.close()
         return piece
 
     def wait(self, also: int, seconds: float) -> None:
-        """Waits for something to read, here or by another descriptor, for at most this number of seconds."""
-        known = (also, self.source.descriptor if self.source else -1)
-        select.select([one for one in known if one >= 0], [], [], seconds)
+        """Waits for something to read, here or by another descriptor, for at most this number of
+        seconds."""
+        known = (also, self.source.awaits if self.source else -1)
+        self.host.wait([one for one in known if one >= 0], seconds)
 
     def close(self) -> None:
         if self.source is not None:
-            self.source.end()
+            self.source.close()
             self.source = None
 
 
@@ -112,8 +124,7 @@ def listen(settings: config.Settings, number: int, reference: Server | HostClock
     began = time.time()
     minutes = Minutes(began - time.monotonic())
     decoder = Decoder(settings.program, settings.radios[number].plan, minutes.take)
-    guard, lines = Guard(), Lines()
-    feed = Feed(settings, number, guard)
+    lines, feed = Lines(), Feed(RealHost(), settings, number)
     end, due = time.monotonic() + seconds, time.monotonic() + seconds / REPORTS
     try:
         while (now := time.monotonic()) < end:
@@ -124,7 +135,10 @@ def listen(settings: config.Settings, number: int, reference: Server | HostClock
             decoder.turn()
             if now >= due:
                 due += seconds / REPORTS
-                say(f"{(seconds - end + now) / 60:.0f} of {seconds / 60:.0f} min: {len(minutes.found)} minutes were believed")
+                so_far = f"{(seconds - end + now) / 60:.0f} of {seconds / 60:.0f} min"
+                clock = time.strftime("%H:%M:%S", time.gmtime())
+                print(f"{clock} {so_far}: {len(minutes.found)} minutes were believed",
+                      file=sys.stderr, flush=True)
             feed.wait(reference.descriptor, 0.2)
     except Ended as error:
         raise Fault(f"radio {number}: its source ended: {error}") from error
@@ -133,5 +147,4 @@ def listen(settings: config.Settings, number: int, reference: Server | HostClock
     finally:
         feed.close()
         decoder.close()
-        guard.close()
     return minutes.found if isinstance(reference, HostClock) else [one for one in minutes.found if one.at >= began]

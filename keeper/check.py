@@ -1,18 +1,17 @@
 """`check`: both files, the host, and some seconds of each receiver, before a start. It changes nothing."""
 
 import os
-import select
 import time
 
 from keeper import config, hosts, lock
-from keeper.children import Guard
 from keeper.chosen_file import chosen
 from keeper.hosts import Finding, Level
 from keeper.marks import LEAST, Look, look, shift_of
 from keeper.marks import MOST as MOST_MARKS
-from keeper.rules import PLANS
-from keeper.source import Command, Ended, Fifo, Growing, source_of
-from keeper.text import length
+from keeper.reporter.rules import PLANS
+from keeper.reporter.text import length
+from keeper.supervisor.real_host import RealHost
+from keeper.supervisor.sources import Ended, Source, source_of
 from keeper.words import DONE, NOT_WELL, Fault, Parser
 
 SECONDS = 10
@@ -98,13 +97,11 @@ def hear(settings: config.Settings, place: int, seconds: int) -> list[Finding]:
     radio = settings.radios[place]
     name = f"radio {place} ({radio.name or radio.plan})"
     print(f"      {name} is read for {seconds} s ..", flush=True)
-    guard = Guard()
+    host = RealHost()
     try:
-        pieces, ended = listen(source_of(radio.kind, radio.value, guard), seconds)
+        pieces, ended = listen(host, source_of(host, radio.kind, radio.value), seconds)
     except OSError as error:
         return [(Level.BAD, f"{name}: its source can't be begun: {error.strerror}")]
-    finally:
-        guard.close()
     seen = look(pieces, seconds, time.monotonic(), time.time())
     found = [(Level.BAD, f"{name}: its source ended: {ended}")] if ended else []
     if radio.kind == "file" and not seen.lines:
@@ -112,21 +109,21 @@ def hear(settings: config.Settings, place: int, seconds: int) -> list[Finding]:
     return found + [(level, f"{name}: {said}") for level, said in judge_marks(seen, radio.plan)]
 
 
-def listen(source: Command | Fifo | Growing, seconds: float) -> tuple[list[tuple[int, bytes]], str]:
-    """What a source writes within a number of seconds, each piece with when it came (us of the monotonic clock), and how it ended, if it did.
-    Raises OSError."""
+def listen(host: RealHost, source: Source, seconds: float) -> tuple[list[tuple[int, bytes]], str]:
+    """What a source writes within a number of seconds, each piece with when it came (us of the
+    monotonic clock), and how it ended, if it did. Raises OSError."""
     pieces: list[tuple[int, bytes]] = []
     ended, left, end = "", MOST, time.monotonic() + seconds
     source.begin()
     try:
         while (wait := end - time.monotonic()) > 0 and left > 0:
-            select.select([source.descriptor] if source.descriptor >= 0 else [], [], [], min(wait, 0.2))
+            host.wait([source.awaits] if source.awaits >= 0 else [], min(wait, 0.2))
             pieces.append((time.monotonic_ns() // 1000, source.read()))
             left -= len(pieces[-1][1])
     except Ended as error:
         ended = str(error)
     finally:
-        source.end()
+        source.close()
     return pieces, ended
 
 

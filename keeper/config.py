@@ -1,17 +1,14 @@
 """The keeper's file, `keeper.toml`, and the station file that it names. A key that isn't known, is missing or out of range is refused by name."""
 
-import errno
 import hashlib
 import os
 import re
-import socket
 import subprocess
 import tomllib
 from dataclasses import dataclass, field
 from typing import Any, NoReturn
 
 from keeper.chosen_file import built_program
-from keeper.station import longest_cycle
 from keeper.words import REFUSED, Fault, reason, sentence
 
 # Without pacing servers are asked at the start of a run alone, so what they said is at most this old, in seconds.
@@ -52,15 +49,18 @@ class Alarms:
 
 @dataclass(frozen=True)
 class Settings:
-    """What both files say. `text` is the station's TOML as it was read; `cycle`, `pace`, `bound` and `gap` are seconds."""
+    """What both files say. `text` is the station's TOML as it was read; `cycle`, `pace`, `bound` and `gap` are seconds; `room` is what logs
+    and journals may have each, in bytes."""
 
     path: str
     station: str
     text: dict
     program: str
     folder: str
+    runtime: str
     cycle: float
     days: int
+    room: int
     pace: float
     radios: list[Radio]
     links: list[int]
@@ -74,8 +74,8 @@ class Settings:
 
 # Each key: its types and its least and greatest value.
 TOP = {
-    "station": (str,), "program": (str,), "state": (str,), "cycle": (int, 2, 86400 * 7), "days": (int, 1, 3650),
-    "pace": (int, 0, 1024), "alarms": (dict,), "radio": (list,),
+    "station": (str,), "program": (str,), "state": (str,), "runtime": (str,), "cycle": (int, 2, 86400 * 7), "days": (int, 1, 3650),
+    "room": (int, 10, 1_000_000), "pace": (int, 0, 1024), "alarms": (dict,), "radio": (list,),
 }
 ALARMS = {"command": (str,), "unheard": (int, 60, 86400 * 30), "limit": (int, 1, 3600)}
 RADIO = {"command": (str,), "fifo": (str,), "file": (str,), "name": (str,), "stall": (int, 2, 86400), "steady": (bool,)}
@@ -173,13 +173,13 @@ def load(path: str) -> Settings:
         raise Fault(f"{path}: radio: there are {len(radios)} tables [[radio]] here, and {len(tables)} in {station_path}{line_of(text, 'radio')}", REFUSED)
     servers = [(one["address"], _port(one)) for one in _table(station, "server") if isinstance(one.get("address"), str) and _port(one)]
     pace = values.get("pace", 16)
-    if servers and pace and "cycle" in values and values["cycle"] > longest_cycle(pace):
-        top.refuse("cycle", f"with servers it is at most {int(longest_cycle(pace))} at this pace: their polls last no longer")
+    folder = os.path.join(base, values.get("state", "state"))
     return Settings(
         path=os.path.abspath(path), station=station_path, text=station,
         program=os.path.join(base, values["program"]) if "program" in values else built_program(),
-        folder=os.path.join(base, values.get("state", "state")),
-        cycle=values.get("cycle", UNPACED_CYCLE if servers and not pace else 3600), days=values.get("days", 30), pace=pace,
+        folder=folder, runtime=os.path.join(base, values["runtime"]) if "runtime" in values else folder,
+        cycle=values.get("cycle", UNPACED_CYCLE if servers and not pace else 3600), days=values.get("days", 30),
+        room=values.get("room", 1000) * 1_000_000, pace=pace,
         radios=radios, links=[_port(one) for one in _table(station, "link") if _port(one)], servers=servers,
         denied=[one["net"] for one in _table(station, "deny") if isinstance(one.get("net"), str)],
         gap=_number(station, "gap", 0) / 1e6, bound=_number(station, "bound", 1000) / 1e3,
@@ -202,21 +202,6 @@ def _radio(path: str, text: str, values: object, place: int, tables: list[dict])
     if named[0] != "command":
         value = os.path.join(os.path.dirname(os.path.abspath(path)), value)
     return Radio(named[0], value, values.get("name", plan), values.get("stall", 60), plan, _number(table, "delay", 0) / 1e6, values.get("steady", False))
-
-
-def ask_host(settings: Settings, ports: list[int]) -> None:
-    """Whether the host gives what a run of these settings opens, but for these ports, which are the keeper's own. Raises Fault."""
-    if settings.leap_file and (why := unreadable(settings.leap_file)):
-        raise Fault(f"leap_file {settings.leap_file}: {why}")
-    for port in settings.links:
-        if port not in ports:
-            try:
-                with socket.socket(socket.AF_INET, socket.SOCK_DGRAM) as link:
-                    link.bind(("0.0.0.0", port))
-            except OSError as error:
-                if error.errno == errno.EADDRINUSE:
-                    raise Fault(f"port {port}: {error.strerror}") from error
-                # Else the program may have a right that the keeper has not.
 
 
 def unreadable(path: str) -> str:

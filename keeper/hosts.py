@@ -12,7 +12,7 @@ from enum import Enum
 
 from keeper.chosen_file import INSTALLED
 from keeper.config import Radio, Settings, unreadable
-from keeper.steadied import PLACE
+from keeper.supervisor.steady import PLACE
 
 CLOCKS = "/sys/devices/system/clocksource/clocksource0"
 GOOD_CLOCKS = ("tsc", "arch_sys_counter", "kvm-clock", "hyperv_clocksource_tsc_page", "xen", "riscv_clocksource", "stp", "timer")
@@ -44,7 +44,7 @@ def look_at_port(port: int) -> Finding:
             if error.errno == errno.EADDRINUSE:
                 return Level.BAD, f"port {port} is taken: `ss -ulpn 'sport = {port}'` says by whom; chronyd gives port 123 back with `port 0` in its file"
             if error.errno in (errno.EACCES, errno.EPERM):
-                return Level.NOTE, f"port {port} needs a right that you don't have; the installed service has it (CAP_NET_BIND_SERVICE)"
+                return Level.NOTE, f"port {port} needs a right that you don't have; systemd binds it for the installed service (radio_ntpd.socket)"
             return Level.BAD, f"port {port} can't be had: {error.strerror}"
     return Level.WELL, f"port {port} is free"
 

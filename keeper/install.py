@@ -16,6 +16,7 @@ SETTINGS = "/etc/radio_ntpd"
 TOOLS = ("entry_times.py", "journal_text.py", "plot_journal.py", "plots.py", "refused_output.py", "summary.sh", "svg_chart.py")
 MODEL = ("__init__.py", "entry.py", "figures.py", "notes.py", "page.py", "selection.py", "units.py")
 PAGES = {"radio_ntpd.8": "man8", "radio_keeper.1": "man1", "radio_ntpd.toml.5": "man5"}
+UNITS = ("radio_ntpd.service", "radio_ntpd.socket")
 TOP = pathlib.Path(__file__).resolve().parent.parent
 
 
@@ -35,7 +36,8 @@ class Places:
     def __init__(self, root: str, prefix: str) -> None:
         self.root, self.prefix = root, prefix.rstrip("/")
         self.library = self.below(f"{self.prefix}/lib/radio_ntpd")
-        self.unit = self.below("/lib/systemd/system/radio_ntpd.service" if self.prefix == "/usr" else "/etc/systemd/system/radio_ntpd.service")
+        units = "/lib/systemd/system" if self.prefix == "/usr" else "/etc/systemd/system"
+        self.units = {name: self.below(f"{units}/{name}") for name in UNITS}
         self.links = {
             self.below(f"{self.prefix}/sbin/radio_ntpd"): "../lib/radio_ntpd/bin/radio_ntpd",
             self.below(f"{self.prefix}/bin/radio_keeper"): "../lib/radio_ntpd/radio_keeper",
@@ -57,8 +59,12 @@ def newer_source(program: pathlib.Path, top: pathlib.Path = TOP) -> pathlib.Path
 
 
 def scripts(folder: str) -> list[str]:
-    """The files of a folder of the sources that are installed: no tests, no hidden ones."""
-    return sorted(one.name for one in (TOP / folder).iterdir() if one.is_file() and not one.name.startswith((".", "test_")))
+    """The files of a folder of the sources that are installed, by their names in it: no tests, no
+    hidden ones."""
+    found = (one.relative_to(TOP / folder) for one in (TOP / folder).rglob("*") if one.is_file())
+    left_out = (".", "test_", "__pycache__")
+    return sorted(str(one) for one in found if one.parts[0] != "tests"
+                  and not any(part.startswith(left_out) for part in one.parts))
 
 
 def adapted(path: pathlib.Path, prefix: str) -> bytes:
@@ -74,8 +80,10 @@ def steps(places: Places, program: str) -> list[Step]:
     found += [put_folder(str(TOP / folder), f"{places.library}/{folder}", names) for folder, names in folders.items()]
     found += [put_link(target, path) for path, target in places.links.items()]
     found += [put_file((TOP / "docs" / name).read_bytes(), path, 0o644) for name, path in places.pages.items()]
-    found.append(put_file(adapted(TOP / "packaging/radio_ntpd.service", places.prefix), places.unit, 0o644))
-    found.append(keep_file(adapted(TOP / "packaging/keeper.toml", places.prefix), f"{places.settings}/keeper.toml", 0o640))
+    for name, path in places.units.items():
+        found.append(put_file(adapted(TOP / "packaging" / name, places.prefix), path, 0o644))
+    settings = adapted(TOP / "packaging/keeper.toml", places.prefix)
+    found.append(keep_file(settings, f"{places.settings}/keeper.toml", 0o640))
     found.append(keep_file((TOP / "packaging/station.toml").read_bytes(), f"{places.settings}/station.toml", 0o640))
     return found
 
@@ -103,12 +111,24 @@ def host_steps(places: Places, is_new: bool) -> list[Step]:
     return found
 
 
+def put_into_group(name: str) -> Step:
+    """The service's user may read the devices of a group."""
+    said = f"put {USER} into the group {name}, whose devices it then may read"
+    return Step(said, lambda: True, lambda: command("usermod", "-aG", name, USER))
+
+
+def let_group_read(path: str, why: str) -> Step:
+    """The service's group may read a file, and others may not."""
+    return Step(f"let the group {USER} read {path}, {why}", lambda: not is_of_group(path, USER),
+                lambda: command("chgrp", USER, path))
+
+
 def removing(places: Places, here: bool) -> list[Step]:
     """All of it again, but for what is the operator's: settings, journals, logs, the user that owns them."""
     found = []
     if here and os.path.isdir("/run/systemd/system"):
-        found.append(Step("stop the service", lambda: os.path.exists(places.unit), lambda: command("systemctl", "disable", "--now", "radio_ntpd")))
-    found += [remove(path) for path in (places.unit, *places.links, *places.pages.values(), places.library)]
+        found.append(Step("stop the service", lambda: any(map(os.path.exists, places.units.values())), lambda: command("systemctl", "disable", "--now", *UNITS)))
+    found += [remove(path) for path in (*places.units.values(), *places.links, *places.pages.values(), places.library)]
     if here and os.path.isdir("/run/systemd/system"):
         found.append(Step("have systemd read its units anew", lambda: True, lambda: command("systemctl", "daemon-reload")))
     return found

@@ -4,8 +4,8 @@ import collections
 import statistics
 from dataclasses import dataclass
 
-from keeper.reception import EPOCH
-from keeper.rules import PLANS
+from keeper.reporter.reception import EPOCH
+from keeper.reporter.rules import PLANS
 
 MINUTE = 60_000_000  # in microseconds
 KEPT = 20 * MINUTE  # marks that may belong to a minute that `decode` closes later; at the start all that is at hand comes at once

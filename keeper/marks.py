@@ -4,7 +4,7 @@ import re
 import statistics
 from dataclasses import dataclass, field
 
-from keeper.lines import Lines, reading
+from keeper.supervisor.pulses import Lines, reading
 
 PAIR = re.compile(rb"\s*(\d{1,19}) (\d{1,13})\s*")  # also what a log doesn't take, so that its unit is seen
 EDGE = re.compile(rb"\b(rising|falling)\b", re.IGNORECASE)

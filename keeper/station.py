@@ -1,10 +1,6 @@
-"""The station's text for one run: the station file with the logs, the start of the counter and, where servers are paced, their relays put in."""
+"""The text of a station, as TOML has it."""
 
-import copy
 import datetime
-
-SILENCE = 2.0  # what a poll that isn't answered takes, in seconds
-MOST_POLLS = 100_000
 
 
 def _string(text: str) -> str:
@@ -36,26 +32,3 @@ def text_of(values: dict) -> str:
         for row in rows:
             lines += ["", f"[[{_string(key)}]]", *(f"{_string(name)} = {_value(one)}" for name, one in row.items())]
     return "\n".join(lines) + "\n"
-
-
-def longest_cycle(pace: float) -> float:
-    """How long the most polls of a server last where one in `pace` seconds is answered (both in seconds)."""
-    return (MOST_POLLS - 8) / (1 / SILENCE + 1 / max(pace, SILENCE))
-
-
-def polls_for(cycle: float, pace: float) -> int:
-    """The number of polls that lasts a cycle where one in `pace` seconds is answered and each other one takes two seconds (both in seconds)."""
-    return max(1, min(MOST_POLLS, int(cycle / SILENCE + cycle / max(pace, SILENCE)) + 8))
-
-
-def text_for(values: dict, logs: list[str], start: int, relays: list[tuple[str, int]] | None = None, polls: int = 0) -> str:
-    """The station's text for a run whose counter begins at `start` microseconds, and whose radios' logs have these names.
-    `relays` stand in the place of the servers, each asked `polls` times."""
-    values = copy.deepcopy(values)
-    values["start"] = start
-    for radio, name in zip(values.get("radio", []), logs):
-        radio["log"] = name
-    if relays is not None:
-        for server, (address, port) in zip(values.get("server", []), relays):
-            server["address"], server["port"], server["polls"] = address, port, polls
-    return text_of(values)

@@ -1,18 +1,23 @@
 """`status` and `watch`: the state of a station for a person, for a program, for Nagios."""
 
+import contextlib
 import dataclasses
 import json
 import os
 import sys
 import time
 
-from keeper import faces, metrics, text
 from keeper.config import read
-from keeper.state import State, StateError, load
-from keeper.verdict import GONE, Level, judge, worst
+from keeper.reporter import metrics, text
+from keeper.reporter.__main__ import STATE
+from keeper.reporter.state import State, StateError, load
+from keeper.reporter.station import Station
+from keeper.reporter.verdict import GONE, Level, judge, span, worst
+from keeper.supervisor.reports import FACTS
 from keeper.words import DONE, UNKNOWN, Fault, Parser
 
-FOLDER = "/var/lib/radio_ntpd"
+FOLDERS = ["/run/radio_ntpd", "/var/lib/radio_ntpd"]
+STANDS = 30.0  # a reporter that has drawn nothing for so long stands still, in seconds
 FILES = ("keeper.toml", "/etc/radio_ntpd/keeper.toml")
 CLEAR = "\033[H\033[2J"
 
@@ -36,12 +41,12 @@ def main(given: list[str], command: str = "status") -> int:
     asked = words.parse_args(given)
     if command == "status" and asked.nagios:
         return nagios(asked.folder, asked.config)
-    path = os.path.join(asked.folder or folder_of(asked.config), faces.STATE)
+    folders = [asked.folder] if asked.folder else folders_of(asked.config)
     if command == "watch":
         if not 0.2 <= asked.every <= 3600:
             words.error("--every is 0.2 to 3600 seconds")
-        return watch(path, asked.every)
-    written, now = found(path), time.time()
+        return watch(folders, asked.every)
+    written, now = found(folders), time.time()
     state = current(written)
     if asked.json:
         print(json.dumps(written, default=vars, indent=1))
@@ -53,21 +58,47 @@ def main(given: list[str], command: str = "status") -> int:
     return DONE
 
 
-def folder_of(config: str | None) -> str:
-    """The folder that a keeper's file names. The station file isn't read, so that nobody has to see its keys to see the state; who
-    may not read the installed keeper's file has the folder that it names as it is installed. Raises Fault."""
+def folders_of(config: str | None) -> list[str]:
+    """Where a state may be, by the keeper's file: the runtime folder and the state folder. The
+    station file isn't read, so that nobody has to see its keys to see the state; who may not read
+    the installed keeper's file has the folders that it names as it is installed. Raises Fault."""
     path = config or next((one for one in FILES if os.access(one, os.R_OK)), None)
     if path is None:
-        return FOLDER
-    return os.path.join(os.path.dirname(os.path.abspath(path)), str(read(path)[0].get("state", "state")))
+        return FOLDERS
+    values, base = read(path)[0], os.path.dirname(os.path.abspath(path))
+    folder = str(values.get("state", "state"))
+    return [os.path.join(base, one) for one in (str(values.get("runtime", folder)), folder)]
 
 
-def found(path: str) -> State:
+def last(folders: list[str]) -> State:
+    """The state of the first folder that has one. Where the reporter stands still, what the
+    supervisor itself wrote last is put in. Raises StateError."""
+    folder = next((one for one in folders if os.path.exists(os.path.join(one, STATE))), folders[0])
+    path, facts = os.path.join(folder, FACTS), {}
+    with contextlib.suppress(OSError, ValueError), open(path, encoding="utf-8") as file:
+        facts = json.load(file)
+    try:
+        state = load(os.path.join(folder, STATE))
+    except StateError:
+        if not facts:
+            raise
+        state = State()
+    if facts and facts["at"] - state.written > STANDS:
+        station = Station(state)
+        station.take(facts)
+        said = f"the reporter has drawn nothing for {span(facts['at'] - state.written)}"
+        station.state.notes.append(said)
+        state, state.written = station.state, facts["at"]
+    return state
+
+
+def found(folders: list[str]) -> State:
     """The state; a Fault where there is none."""
     try:
-        return load(path)
+        return last(folders)
     except StateError as error:
-        raise Fault(f"{error}; does the keeper run, and are --config and --folder right?") from error
+        said = f"{error}; does the keeper run, and are --config and --folder right?"
+        raise Fault(said) from error
 
 
 def is_there(process: int) -> bool:
@@ -90,7 +121,8 @@ def current(written: State) -> State:
 def nagios(folder: str | None, config: str | None) -> int:
     """One line on standard output, whatever is wrong."""
     try:
-        line, level = text.nagios(current(load(os.path.join(folder or folder_of(config), faces.STATE))), time.time())
+        state = current(last([folder] if folder else folders_of(config)))
+        line, level = text.nagios(state, time.time())
     except (StateError, Fault) as error:
         line, level = f"RADIO_NTPD UNKNOWN: {str(error).replace('|', '/')}", Level(UNKNOWN)
     print(line)
@@ -102,12 +134,12 @@ def takes_blocks() -> bool:
     return (sys.stdout.encoding or "").lower().replace("-", "") == "utf8"
 
 
-def watch(path: str, every: float) -> int:
+def watch(folders: list[str], every: float) -> int:
     """Draws the state until it is interrupted."""
     clear = CLEAR if sys.stdout.isatty() else ""
     while True:
         try:
-            said = text.render(current(load(path)), time.time(), takes_blocks())
+            said = text.render(current(last(folders)), time.time(), takes_blocks())
         except StateError as error:
             said = f"{error}\n"
         sys.stdout.write(clear + said)

@@ -147,8 +147,12 @@ def put_folder(source: str, path: str, names: list[str]) -> Step:
 
     def differs() -> bool:
         try:
-            there = sorted(os.listdir(path))
-            return there != sorted(names) or os.stat(path).st_mode & 0o7777 != 0o755 or any(_text(os.path.join(source, one)) != _text(os.path.join(path, one)) for one in names)
+            there = [os.path.relpath(os.path.join(folder, one), path)
+                     for folder, _, files in os.walk(path) for one in files]
+            if sorted(there) != sorted(names) or os.stat(path).st_mode & 0o7777 != 0o755:
+                return True
+            return any(_text(os.path.join(source, one)) != _text(os.path.join(path, one))
+                       for one in names)
         except OSError:
             return True
 
@@ -157,11 +161,13 @@ def put_folder(source: str, path: str, names: list[str]) -> Step:
         shutil.rmtree(part, ignore_errors=True)
         os.makedirs(part)
         try:
-            os.chmod(part, 0o755)
             for one in names:
-                target = os.path.join(part, one)
-                shutil.copyfile(os.path.join(source, one), target)
-                os.chmod(target, 0o755 if os.access(os.path.join(source, one), os.X_OK) else 0o644)
+                target, origin = os.path.join(part, one), os.path.join(source, one)
+                os.makedirs(os.path.dirname(target), exist_ok=True)
+                shutil.copyfile(origin, target)
+                os.chmod(target, 0o755 if os.access(origin, os.X_OK) else 0o644)
+            for folder, _, _ in os.walk(part):
+                os.chmod(folder, 0o755)
             put_in_place(part, path)
         finally:
             shutil.rmtree(part, ignore_errors=True)

@@ -14,8 +14,8 @@ import sys
 import tempfile
 import time
 
-from keeper import page
-from keeper.state import State
+from keeper.reporter import page
+from keeper.reporter.state import State
 from keeper.tests.made_station import made_station
 
 ASKS = "<script>document.title = [innerWidth, document.documentElement.scrollWidth, document.getElementById('old').className].join('|')</script>"

@@ -3,7 +3,7 @@
 import math
 import random
 
-from keeper.state import Alarm, LeapFileState, LinkState, Quarter, RadioState, RunState, ServerState, Slot, State
+from keeper.reporter.state import Alarm, LeapFileState, LinkState, Quarter, RadioState, RunState, ServerState, Slot, State
 
 NOW = 1767269100.0  # 2026-01-01 12:05:00 UTC
 
@@ -51,12 +51,12 @@ def made_station(now: float) -> State:
     ]
     draw = random.Random(9)
     servers = [
-        ServerState(3, "192.0.2.17", 123, 56, {}, now - 41, now - 41, 0.00042, 0.0123, 1, slots(now, draw, 0.0004, 0.0004)),
-        ServerState(4, "198.51.100.4", 123, 55, {"6": 1}, now - 17, now - 17, -0.0011, 0.0241, 2, slots(now, draw, -0.0011, 0.0007)),
+        ServerState(3, "192.0.2.17", 123, 56, {}, now - 41, 0.00042, 0.0123, 1, slots(now, draw, 0.0004, 0.0004)),
+        ServerState(4, "198.51.100.4", 123, 55, {"6": 1}, now - 17, -0.0011, 0.0241, 2, slots(now, draw, -0.0011, 0.0007)),
     ]
     return State(
         written=now, keeper_since=now - 279_000, keeper_pid=1, station="/etc/radio_ntpd/station.toml", bound=0.5,
-        run=RunState(78, now - 1203, "cycle", 4242, 0.00131, 5e-6, "status 0", "20260101T114500Z.journal"),
+        run=RunState(78, now - 1203, "cycle", 4242, "status 0", "20260101T114500Z.journal"),
         links=[LinkState(123, now - 1, now - 1, 0, 1, "DCF", 0.0, 0.00541, now - now % 60, now + 32_900, 991_234, 3.4, 0.0007)],
         radios=radios, servers=servers, leap_file=LeapFileState(5, "/usr/share/zoneinfo/leap-seconds.list", 27, 1483228800.0, now + 150 * 86400),
         alarms=[Alarm("radio-unheard", now - 24_000, "radio 2 (wwvb) has had no verdict for 3600 s"), Alarm("radio-heard", now - 22_800, "radio 2 (wwvb) is received again")],
@@ -69,9 +69,9 @@ def a_good_station(now: float = NOW) -> State:
     slots = [Slot((now // 300 - 287 + place) * 300, -0.002, 0.001, 0.003) for place in range(288)]
     return State(
         written=now, keeper_since=now - 90000, keeper_pid=1, station="/etc/radio_ntpd/station.toml", bound=0.5,
-        run=RunState(number=7, since=now - 600, cause="cycle", lag=0.0013, lag_bound=5e-6, last_status="status 0"),
+        run=RunState(number=7, since=now - 600, cause="cycle", last_status="status 0"),
         links=[LinkState(123, now - 1, now - 1, 0, 1, "DCF", 0.0, 0.0054, now - 40, now + 32900, 991, 3.4)],
         radios=[RadioState(0, "dcf", "roof", "running", pulses=9, pulse_at=now - 1, verdicts_hour=58, minutes_hour=60, minute=now, minute_at=now, spread=0.0021, reception=quarters, offsets=slots)],
-        servers=[ServerState(1, "192.0.2.17", 123, 56, {"6": 2}, now - 60, now - 60, 0.0004, 0.012, 1, slots[:100])],
+        servers=[ServerState(1, "192.0.2.17", 123, 56, {"6": 2}, now - 60, 0.0004, 0.012, 1, slots[:100])],
         leap_file=LeapFileState(2, "/l", 27, 1483228800.0, now + 100 * 86400),
     )

@@ -16,8 +16,10 @@ from unittest import mock
 
 from keeper import calibrate, lock
 from keeper.lateness import Minute, Minutes, result, sentences
-from keeper.pulse_log import boot_id, day_of
 from keeper.reference import HostClock, Server
+from keeper.supervisor.clocks import counter, tag_of
+from keeper.supervisor.logs import PulseLog
+from keeper.supervisor.real_host import RealHost
 from keeper.words import Fault
 
 EPOCH = 2208988800
@@ -209,10 +211,12 @@ class Whole(unittest.TestCase):
         self.assertAlmostEqual(int(found[2]), self.LATE, delta=200)
 
     def test_by_the_log_of_a_keeper_that_runs(self):
-        self.write(f"state/logs/0-dcf.{day_of(time.time())}.{boot_id()}.log", "\n".join(self.marks()) + "\n")
         self.write("keeper.toml", 'station = "station.toml"\nprogram = "program"\n[[radio]]\ncommand = "exit 9"\n')
+        host = RealHost()
+        log = PulseLog(host, "", 0, "dcf", tag_of(counter(host), "command exit 9"))
+        self.write(f"state/logs/{log.name(time.time())}", "\n".join(self.marks()) + "\n")
         # A keeper holds a lock on its folder.
-        self.addCleanup(os.close, lock.take(os.path.join(self.folder, "state")))
+        self.addCleanup(os.close, lock.take(host, os.path.join(self.folder, "state")))
         told, said = self.calibrate(4.0)
         self.assertEqual(told, 0, said)
 

@@ -15,7 +15,8 @@ from keeper import check, config, hosts, lock
 from keeper.config import Radio
 from keeper.hosts import Level
 from keeper.marks import Look, look
-from keeper.state import State, save
+from keeper.reporter.state import State, save
+from keeper.supervisor.real_host import RealHost
 from keeper.tests.test_marks import UNIX, log, pieces_of, seen, upside_down
 from keeper.words import REFUSED, Fault
 
@@ -54,7 +55,7 @@ class Running(Folder):
         os.mkdir(settings.folder)
         save(State(written=time.time()), os.path.join(settings.folder, "state.json"))
         self.assertFalse(check.keeper_runs(settings))
-        keeper = lock.take(settings.folder)
+        keeper = lock.take(RealHost(), settings.folder)
         self.assertTrue(check.keeper_runs(settings))
         os.close(keeper)
         self.assertFalse(check.keeper_runs(settings))

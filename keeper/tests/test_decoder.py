@@ -5,7 +5,7 @@ import tempfile
 import time
 import unittest
 
-from keeper.decoder import PAUSE, Decoder
+from keeper.reporter.decoder import PAUSE, Decoder
 
 ECHO = """#!/bin/sh
 echo "$@" >> "$0.words"

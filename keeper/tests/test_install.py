@@ -49,8 +49,8 @@ class Install(unittest.TestCase):
         self.assertEqual([line.removeprefix("would ") for line in said], done)
         there = self.files()
         for due in (
-            "etc/radio_ntpd/keeper.toml", "etc/radio_ntpd/station.toml", "etc/systemd/system/radio_ntpd.service", "usr/local/lib/radio_ntpd/bin/radio_ntpd", "usr/local/lib/radio_ntpd/radio_keeper",
-            "usr/local/lib/radio_ntpd/keeper/run.py", "usr/local/lib/radio_ntpd/keeper/page.css", "usr/local/lib/radio_ntpd/feeders/edges_to_log.py", "usr/local/share/man/man8/radio_ntpd.8",
+            "etc/radio_ntpd/keeper.toml", "etc/radio_ntpd/station.toml", "etc/systemd/system/radio_ntpd.service", "etc/systemd/system/radio_ntpd.socket", "usr/local/lib/radio_ntpd/bin/radio_ntpd", "usr/local/lib/radio_ntpd/radio_keeper",
+            "usr/local/lib/radio_ntpd/keeper/run.py", "usr/local/lib/radio_ntpd/keeper/reporter/page.css", "usr/local/lib/radio_ntpd/keeper/supervisor/run.py", "usr/local/lib/radio_ntpd/feeders/edges_to_log.py", "usr/local/share/man/man8/radio_ntpd.8",
             "usr/local/share/man/man1/radio_keeper.1", "usr/local/share/man/man5/radio_ntpd.toml.5",
         ):
             self.assertIn(due, there)
@@ -63,9 +63,9 @@ class Install(unittest.TestCase):
         settings = os.path.join(self.root, "etc/radio_ntpd/keeper.toml")
         self.put(settings, 'state = "elsewhere"\n')
         with mock.patch("keeper.status.FILES", ("/nosuch", settings)):
-            self.assertEqual(status.folder_of(None), os.path.join(os.path.dirname(settings), "elsewhere"))
+            self.assertEqual(status.folders_of(None), [os.path.join(os.path.dirname(settings), "elsewhere")] * 2)
             with mock.patch("keeper.status.os.access", lambda *_: False):
-                self.assertEqual(status.folder_of(None), install.HOME)
+                self.assertEqual(status.folders_of(None), ["/run/radio_ntpd", install.HOME])
 
     def test_what_is_installed_runs(self):
         self.install("--do")
@@ -121,13 +121,28 @@ class Install(unittest.TestCase):
                 needed = [step.text for step in install.host_steps(places, is_new) if step.needed()]
                 self.assertEqual("start the service again, if it runs" in needed, is_new)
 
-    def test_the_unit_lets_its_user_have_port_123(self):
-        """systemd.exec(5): a user's process has the capabilities that are ambient, out of those of its bounding set."""
+    def test_systemd_binds_port_123_and_no_process_has_a_capability(self):
         self.install("--do")
-        with open(os.path.join(self.root, "etc/systemd/system/radio_ntpd.service"), encoding="utf-8") as file:
-            lines = file.read().splitlines()
-        for due in ("User=radio_ntpd", "AmbientCapabilities=CAP_NET_BIND_SERVICE", "CapabilityBoundingSet=CAP_NET_BIND_SERVICE"):
-            self.assertIn(due, lines)
+        units = {}
+        for name in install.UNITS:
+            with open(os.path.join(self.root, "etc/systemd/system", name), encoding="utf-8") as file:
+                units[name] = file.read().splitlines()
+        self.assertIn("ListenDatagram=0.0.0.0:123", units["radio_ntpd.socket"])
+        for due in ("User=radio_ntpd", "CapabilityBoundingSet=", "Requires=radio_ntpd.socket"):
+            self.assertIn(due, units["radio_ntpd.service"])
+        self.assertFalse([one for one in units["radio_ntpd.service"] if "Ambient" in one])
+
+    def test_a_copy_that_fails_leaves_what_was_there(self):
+        self.install("--do")
+        library = os.path.join(self.root, "usr/local/lib/radio_ntpd")
+        self.put(f"{library}/keeper/run.py", "older")
+        with mock.patch("keeper.steps.shutil.copyfile", side_effect=OSError(28, "No space")):
+            with self.assertRaises(OSError):
+                self.install("--do")
+        self.assertTrue(os.path.exists(f"{library}/keeper/run.py"))
+        self.assertEqual(sorted(os.listdir(library)), ["bin", "checks", "feeders", "keeper", "radio_keeper", "tools"])
+        self.install("--do")
+        self.assertEqual(self.install("--do")[:-1], [])
 
     def test_the_unit_lets_receivers_in_that_are_plugged_in_later(self):
         """systemd.resource-control(5): a name is looked up in /proc/devices as the unit starts. Drivers of USB ports are modules, and these

@@ -13,7 +13,7 @@ import unittest
 from unittest import mock
 
 from keeper import __main__, chosen_file
-from keeper.state import State, save
+from keeper.reporter.state import State, save
 
 KEEPER = pathlib.Path(__file__).parent.parent.parent / "radio_keeper"
 
@@ -59,7 +59,7 @@ class CommandLine(unittest.TestCase):
                 self.assertTrue(said)
 
     def test_words_for_the_service(self):
-        for word in ("stop", "reload"):
+        for word in ("stop", "restart"):
             told, _, said = self.run_keeper(word)
             self.assertEqual((told, said.splitlines()[-1]), (64, f"radio_keeper: there is no command {word!r}: `systemctl {word} radio_ntpd` is meant for the service"))
 

@@ -4,8 +4,11 @@ import pathlib
 import re
 import unittest
 
-from keeper import __main__, alarms, calibrate, check, config, faces, install, status, words
-from keeper.state import Alarm
+from keeper import __main__, calibrate, check, config, install, reload, status, words
+from keeper.reporter import alarms
+from keeper.reporter.__main__ import METRICS, PAGE, STATE
+from keeper.reporter.state import Alarm, State
+from keeper.supervisor.real_host import RealHost
 
 DOCS = pathlib.Path(__file__).parent.parent.parent / "docs"
 MANUAL = (DOCS / "radio_keeper.1").read_text()
@@ -51,16 +54,16 @@ class Pages(unittest.TestCase):
     def test_each_command_file_and_status(self):
         for command in __main__.COMMANDS:
             self.assertIn(f"\n.It Cm {command}\n", MANUAL)
-        for name in (faces.STATE, faces.PAGE, faces.METRICS):
+        for name in (STATE, PAGE, METRICS):
             self.assertIn(name, MANUAL)
         for number in (words.DONE, words.NOT_WELL, words.CRITICAL, words.UNKNOWN, words.USAGE, words.HOST, words.REFUSED, words.INTERRUPTED):
             self.assertIn(f"\n.It {number}\n", MANUAL)
-        for name in alarms.Alarms("x")._environment(faces.State(), "", "", 0.0, None):
+        for name in alarms.Alarms(RealHost())._environment(State(), "", "", 0.0, None):
             if name.startswith("RADIO_") and name != "RADIO_NTPD":
                 self.assertIn(name, MANUAL)
 
     def test_each_option(self):
-        for parser in (status.parser("status"), status.parser("watch"), check.parser(), install.parser(), calibrate.parser()):
+        for parser in (status.parser("status"), status.parser("watch"), check.parser(), install.parser(), calibrate.parser(), reload.parser()):
             command = parser.prog.split()[1]
             synopsis = re.search(rf"(?ms)^\.Cm {command}$(.*?)^\.Nm$", MANUAL)[1]
             for option in parser._option_string_actions:

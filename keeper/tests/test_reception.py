@@ -5,9 +5,9 @@ import random
 import tempfile
 import unittest
 
-from keeper.journal import expiry, read_journal
-from keeper.reception import Reception, Slots, Spread
-from keeper.state import LeapFileState, Quarter, RadioState, ServerState, Slot, State
+from keeper.reporter.journal import expiry, read_journal
+from keeper.reporter.reception import Reception, Slots, Spread
+from keeper.reporter.state import LeapFileState, Quarter, RadioState, ServerState, Slot, State
 
 # 2026-01-01 12:05:00 UTC, as `date -u -d @1767269100` says; docs/FORMATS.md has the line of it.
 MINUTE = 1767269100.0

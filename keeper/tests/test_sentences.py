@@ -4,29 +4,21 @@ import contextlib
 import errno
 import io
 import os
-import pathlib
-import signal
 import tempfile
-import time
-import types
 import unittest
 from unittest import mock
 
-from keeper import check, hosts, install, lateness, rules, state, status, steps, text
-from keeper.alarms import Alarms
+from keeper import check, hosts, install, lateness, status, steps
+from keeper.reporter import rules, state, text
+from keeper.reporter.alarms import Alarms
 from keeper.config import Radio, Settings, judge
-from keeper.crew import Crew
-from keeper.feed import Feed
 from keeper.hosts import Level
-from keeper.journals import WAITING, Journals
-from keeper.keep import Keeper
 from keeper.lateness import Result
-from keeper.loop import Loop
 from keeper.marks import Look
-from keeper.runs import Run
-from keeper.state import LinkState, RadioState, RunState, State
+from keeper.reporter.state import State
+from keeper.supervisor.radios import Feed
+from keeper.supervisor.real_host import RealHost
 from keeper.tests.made_station import made_station
-from keeper.tests.test_keep import Kept
 from keeper.words import Fault, with_port
 
 WIDTHS = [100_000] * 9 + [200_000]
@@ -139,24 +131,22 @@ class OfTheHost(unittest.TestCase):
 
 
 class OfAState(unittest.TestCase):
-    def test_alarms_of_runs(self):
-        for cause, sentence in (("silent", "the run before didn't answer any more; run 2 follows"), ("link", "the run before had a link or relays that failed, or asked a server no more; run 2 follows")):
-            alarms, now = Alarms(""), State(run=RunState(number=2, cause=cause))
-            alarms.run = 1
-            self.assertIn(f"alarm run-died: {sentence}\n", said(alarms.judge, now, 100.0))
-
     def test_a_command_that_can_not_be_started(self):
-        alarms = Alarms("true")
-        said(alarms.raise_alarm, State(), "time-lost", "no link answers", 1.0)
-        with mock.patch("keeper.alarms.subprocess.Popen", side_effect=OSError(errno.EAGAIN, "too many")):
-            self.assertIn("the alarm's command can't be started: too many\n", said(alarms.turn, 1.0))
+        host = RealHost()
+        alarms = Alarms(host)
+        alarms.command = "true"
+        with self.assertLogs("keeper") as told:
+            alarms.raise_alarm(State(), "time-lost", "no link answers", 1.0)
+            with mock.patch.object(host, "spawn", side_effect=OSError(errno.EAGAIN, "too many")):
+                alarms.turn(1.0)
+        self.assertIn("the alarm's command can't be started: too many", told.output[1])
 
     def test_texts_of_numbers(self):
         self.assertEqual(rules.rule("dcf", "10")[1], "bit errors, or a signal that isn't DCF77")
         self.assertEqual(rules.rule("msf", "41")[1], "two bit errors that the parity missed")
         self.assertEqual(rules.declined("3")[1], "no request was outstanding: an answer that came twice or late")
         self.assertEqual(rules.cause("reload"), "the files were read anew")
-        self.assertEqual(rules.reference("RATE", State()), "asked too often")
+        self.assertEqual(rules.reference("RATE"), "asked too often")
         # Each rule of a plan and each reason has a name and a sentence, and each cause of a run its own.
         for plan, numbers in (("dcf", (1, 2, 3, *range(10, 25))), ("msf", (1, 2, 3, *range(30, 43))), ("wwvb", (1, 2, 3, *range(50, 57), 58))):
             for number in numbers:
@@ -170,7 +160,7 @@ class OfAState(unittest.TestCase):
         made.radios[0].last_bad = "12 x"
         made.links[0].leap = 1
         shown = text.render(made, now)
-        for sentence in ("VERDICTS 1 H", "+1 s today", "its counter began 1.3 ms late (known within 5 us); pulses are moved by that", "  last bad line: 12 x\n"):
+        for sentence in ("VERDICTS 1 H", "+1 s today", "  last bad line: 12 x\n"):
             self.assertIn(sentence, shown)
         made.leap_file.expires = 0.0
         self.assertIn("doesn't say when it expires", text.render(made, now))
@@ -190,19 +180,6 @@ class OfAState(unittest.TestCase):
 
 
 class OfRuns(unittest.TestCase):
-    def test_a_run_that_begins_and_ends(self):
-        crew = types.SimpleNamespace(state=State(links=[LinkState(1)]), notify=mock.Mock(), journals=mock.Mock(keep=lambda *_: ""), hearings=mock.Mock(), alarms=mock.Mock(), note_counter=mock.Mock())
-        run = mock.Mock(spec=Run, number=2, cause="cycle", since=1.0, reading=None, began=1.0, ended=41.0, why="died", own=[0], exit_status=-9, reason="", note="", server=mock.Mock(), settings=mock.Mock(links=[1]))
-        run.age.return_value, run.about_counter = 0.006, lambda: Run.about_counter(run)
-        self.assertIn("run 2 (cycle) serves after 6 ms; where its counter stands isn't known\n", said(Crew.note_begin, crew, run))
-        run.reading = mock.Mock(lag=1304.2, bound=12.0)
-        self.assertIn("run 2 (cycle) serves after 6 ms; its counter began 1304 us late, known within 12 us\n", said(Crew.note_begin, crew, run))
-        self.assertIn("run 2 ended (died) after 40 s: no status line, it was ended by signal 9\n", said(Crew.note_end, crew, run, b""))
-
-    def test_a_run_that_nobody_answers_for(self):
-        run = types.SimpleNamespace(server=mock.Mock(status=lambda: None), settings=mock.Mock(links=[12300]))
-        self.assertRegex(Run.give_up(run), r"^nobody answers on port 12300 within \d+ s$")
-
     def test_a_link_is_named_with_its_port(self):
         for said_by_it, shown in (
             ("cannot open link 1: another program or link has the port", "cannot open link 1 (port 323): another program or link has the port"),
@@ -210,46 +187,14 @@ class OfRuns(unittest.TestCase):
         ):
             self.assertEqual(with_port(said_by_it, [123, 323]), shown)
 
-    def test_journals_that_are_lost(self):
-        sentences = []
-        with tempfile.TemporaryDirectory() as folder:
-            kept = Journals(os.path.join(folder, "file", "journals"), 3, sentences.append)
-            pathlib.Path(folder, "file").touch()
-            self.assertEqual(kept.keep(0.0, b"0 1 lone 2\n", [1]), "")
-            for number in range(WAITING + 1):
-                kept.keep(float(number), b"status 0\n", [1])
-        self.assertEqual(sentences[0], "the run of 19700101T000000Z ended without a status line: its journal is lost")
-        self.assertIn("the journal 19700101T000000Z is given up: the disk takes nothing", sentences)
-
-    def test_relays_that_have_ended(self):
-        run = mock.Mock(spec=Run, number=2, server=mock.Mock())
-        run.drain.return_value = True
-        keep = types.SimpleNamespace(crew=mock.Mock(), stopping=True, _use_next=lambda: None, _meanwhile=None)
-        self.assertIn("the relays have ended; they are started again\n", said(Keeper._end_run, keep, run, "link"))
-        keep.crew.pacing.renew.assert_called_once_with()
-
 
 class OfSources(unittest.TestCase):
     def test_a_source_that_can_not_be_opened(self):
-        sentences, loop = [], Loop()
-        self.addCleanup(loop.close)
-        feed = Feed(loop, None, radio("file", "/nosuch"), RadioState(plan="dcf"), mock.Mock(), None, sentences.append)
+        feed = Feed(RealHost(), 0, radio("file", "/nosuch"), lambda *_: None)
         self.addCleanup(feed.close)
-        feed.turn(time.monotonic())
-        self.assertEqual([one for one in sentences if "opened" in one], ["radio 0: its source can't be opened: /nosuch: No such file or directory; it is opened again in 1 s"])
-
-
-class OfTheEnd(Kept):
-    def test_the_end_and_a_run_that_is_ended_at_once(self):
-        self.keep()
-        self.waits("run 1 has the time")
-        self.keeper.send_signal(signal.SIGTERM)
-        self.waits("the end was asked for")
-        self.keeper.send_signal(signal.SIGTERM)
-        self.assertIn(self.keeper.wait(60), (0, 1))
-        # It may have ended already when the second signal came.
-        if self.keeper.returncode:
-            self.assertIn("run 1 is ended at once: its journal is lost", self.text())
+        with self.assertLogs("keeper") as told:
+            feed.turn(set())
+        self.assertIn("radio 0: its source can't be opened: /nosuch: No such file or directory; it is opened again in 1 s", told.output[0])
 
 
 if __name__ == "__main__":

@@ -6,7 +6,7 @@ import os
 import tempfile
 import unittest
 
-from keeper.state import LeapFileState, LinkState, Quarter, RadioState, RunState, Slot, State, StateError, load, read, save
+from keeper.reporter.state import LeapFileState, LinkState, Quarter, RadioState, RunState, Slot, State, StateError, load, read, save
 
 
 def whole() -> State:

@@ -10,10 +10,9 @@ import time
 import unittest
 from unittest import mock
 
-from keeper import faces, status
-from keeper.shelter import Shelter
-from keeper.state import save
-from keeper.tests.made_station import NOW, a_good_station
+from keeper import status
+from keeper.reporter.state import save
+from keeper.tests.made_station import a_good_station
 from keeper.words import Fault
 
 
@@ -29,9 +28,22 @@ class Files(unittest.TestCase):
             told = status.main([*words, "--folder", self.folder])
         return told, out.getvalue()
 
-    def test_all_is_renewed(self):
-        faces.renew(a_good_station(), self.folder, NOW, Shelter(print))
-        self.assertEqual(sorted(os.listdir(self.folder)), ["radio_ntpd.prom", "state.json", "status.html"])
+    def test_where_the_reporter_stands_still_the_supervisors_word_counts(self):
+        now = time.time()
+        save(a_good_station(now - 500), os.path.join(self.folder, "state.json"))
+        facts = {
+            "at": now, "since": now - 900, "pid": os.getpid(), "station": "s", "folder": self.folder, "program": "p",
+            "bound": 0.5, "cycle": 3600, "servers": [], "leap_file": None, "radios": [], "events": [],
+            "notes": [], "run": {"number": 9, "since": now - 5, "cause": "died", "pid": 7, "last_status": "", "last_journal": ""},
+            "links": [{"port": 123, "asked_at": now, "answered_at": now, "requests": 1, "requests_per_second": 0.0,
+                       "leap": 0, "stratum": 1, "reference_id": "DCF", "root_delay": 0.0, "root_dispersion": 0.005,
+                       "reference_time": now, "came": now, "offset": 0.0}]}
+        with open(os.path.join(self.folder, "service.json"), "w", encoding="utf-8") as file:
+            json.dump(facts, file)
+        told, said = self.run_status()
+        self.assertEqual(told, 1)
+        self.assertRegex(said, r"\AWARNING: the reporter has drawn nothing for 8 min 20 s\n")
+        self.assertIn("run 9, ", said)
 
     def test_status_in_each_form(self):
         now = time.time()
@@ -85,18 +97,27 @@ class Files(unittest.TestCase):
                 with open(path, "wb") as file:
                     file.write(odd)
                 with self.assertRaisesRegex(Fault, "odd.toml: it "):
-                    status.folder_of(path)
+                    status.folders_of(path)
                 out = io.StringIO()
                 with contextlib.redirect_stdout(out):
                     self.assertEqual(status.main(["--nagios", "--config", path]), 3)
                 self.assertRegex(out.getvalue(), r"\ARADIO_NTPD UNKNOWN: [^\n|]*\n\Z")
 
+    def test_a_file_that_is_not_for_everybody(self):
+        path = os.path.join(self.folder, "keeper.toml")
+        with open(path, "w", encoding="utf-8") as file:
+            file.write('state = "/x"')
+        with mock.patch.object(status, "FILES", (path,)):
+            self.assertEqual(status.folders_of(None)[1], "/x")
+            with mock.patch.object(status.os, "access", return_value=False):
+                self.assertEqual(status.folders_of(None), ["/run/radio_ntpd", "/var/lib/radio_ntpd"])
+
     def test_the_folder_of_a_file(self):
         path = os.path.join(self.folder, "keeper.toml")
-        for said, due in (("", f"{self.folder}/state"), ('state = "s"', f"{self.folder}/s"), ('state = "/x"', "/x")):
+        for said, due in (("", f"{self.folder}/state"), ('state = "s"', f"{self.folder}/s"), ('state = "/x"', "/x"), ('state = "s"\nruntime = "/r"', "/r")):
             with open(path, "w", encoding="utf-8") as file:
                 file.write(said)
-            self.assertEqual(status.folder_of(path), due)
+            self.assertEqual(status.folders_of(path)[0], due)
 
 
 if __name__ == "__main__":
