@@ -20,6 +20,8 @@ CASES = [
     ("feeders/steady.py", "--most x", 2),
     ("checks/lanes.py", "x", 2),
     ("checks/lanes.py", "--help", 0),
+    ("checks/machine.py", "nosuch", 2),
+    ("checks/machine.py", "--package /nosuch pause", 1),
     ("checks/service.py", "--changes x", 2),
     ("checks/service.py", "/nosuch", 1),
     ("feeders/chrony_sock.py", "", 2),
