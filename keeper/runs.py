@@ -19,7 +19,7 @@ from keeper.watch import Watch
 from keeper.words import ended, with_port
 
 BEGIN = 5.0  # within which a run's first link has to answer, in seconds
-FOREIGN = 0.5  # within which a server ends whose port another program has, in seconds
+FOREIGN = 2.0  # within which a server ends whose port another program has, in seconds
 END = 90.0  # within which a run has to end when it is drained, in seconds
 TURN = 0.01  # how often the loop goes round meanwhile, in seconds
 POLLS = 20.0  # what pollers that aren't paced may take to end by themselves, in seconds

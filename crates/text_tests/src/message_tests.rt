@@ -463,8 +463,8 @@ event: FALLING EDGE offset: 17 timestamp: [    12.345678901]|it is an edge of a 
 1000001 100000|
 2000000 100000~|the file ends before its line feed
 2000000 100000!~|a carriage return stands at its end
-2000000 1000001234567890123456|it has 32 bytes or more
-2000000 100000123456789012345|its width is above 2000000";
+2000000 100000123456789012345678|it has 32 bytes or more
+2000000 10000012345678901234567|its width is above 2000000";
 
 // The line of a row as it stands in a file, and whether it has its line feed.
 fn line_in(rt: &impl Abort, alloc: Global, text: &str) -> (String, bool) {
