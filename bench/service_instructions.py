@@ -26,7 +26,7 @@ FEW, MANY = 1000, 3000
 
 
 def instructions(program: str, folder: Path, is_held: bool, count: int) -> int:
-    """How many instructions a run takes that answers so many requests."""
+    """How many instructions a run takes that answers `count` requests."""
     link = held.bound()
     port = link.getsockname()[1]
     path = folder / "station.toml"

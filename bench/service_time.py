@@ -5,7 +5,7 @@
 
 LOG is an MSF log without jitter (bench/make_logs.py). At each of N starts a client asks 200 times
 and takes the answer with the least delay; its offset is printed in microseconds, the greatest of
-all starts, without and with a load of so many busy processes. Exit status: 0, 1 where an offset is
+all starts, without and with a load of N busy processes. Exit status: 0, 1 where an offset is
 above 50 us, 2 invalid arguments.
 """
 
@@ -30,7 +30,7 @@ DELAY = 2600  # the path delay of the made log, in microseconds
 
 @contextlib.contextmanager
 def load(count: int) -> Iterator[None]:
-    """So many busy processes, which end by themselves after two minutes."""
+    """`count` busy processes, which end by themselves after two minutes."""
     busy = "import time\nend = time.monotonic() + 120\nwhile time.monotonic() < end: pass"
     some = [subprocess.Popen([sys.executable, "-c", busy]) for _ in range(count)]
     try:
@@ -56,7 +56,7 @@ def offset(port: int) -> float:
 
 
 def starts(program: str, folder: Path, log: Path, count: int) -> list[float]:
-    """The offsets of so many starts."""
+    """The offsets of `count` starts."""
     found = []
     for _ in range(count):
         link = held.bound()

@@ -228,7 +228,7 @@ says 4 'status 4 read feed 0' 'radio_ntpd: cannot read the log (/): it is a fold
 says 4 'status 4 read station' 'radio_ntpd: cannot read the station file (/): it is a folder' serve --station /
 says 4 'status 4 read script' 'radio_ntpd: cannot read the script (/): it is a folder' replay --station examples/station.toml --script /
 says 4 'status 4 read journal' 'radio_ntpd: cannot read the journal (/): it is a folder' migrate --station examples/station.toml --journal /
-# A bad line of a log, behind one that starts at 1000000: the condition that it does not meet, and what is printable of it.
+# A bad line of a log, after one that starts at 1000000: the condition that it does not meet, and what is printable of it.
 bad_log() {
     printf "1000000 100000\n$1" > "$work/log"
     says 5 'status 5 line 0 2' "radio_ntpd: line 2 of the log ($work/log) is bad: $2: '$3'" decode --plan dcf --log "$work/log"

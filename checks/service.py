@@ -4,7 +4,7 @@ the built program.
 
     checks/service.py [--changes N] [--rate N] [--only WORD] PROGRAM
 
-N changes from one run to the next, at so many requests a second (default 5 and 500). Each wait has
+N changes from one run to the next, at N requests a second (default 5 and 500). Each wait has
 a bound; the whole takes about half a minute. Exit status: 0 all as it should be, 1 something isn't,
 2 invalid arguments, 130 stopped by SIGINT.
 """

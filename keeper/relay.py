@@ -20,7 +20,7 @@ QUIET = 20.0  # a poller that asked nothing for so long doesn't ask any more: ei
 LOOK = 1.0  # how often that is looked at, in seconds
 LONGEST_PACE = 1024.0  # where a server asks for a pause, in seconds
 REFUSED = 86400.0  # and where it doesn't serve us at all, in seconds
-PATIENT = 64  # after so many answers a server that asked for a pause is asked twice as often again
+PATIENT = 64  # after this many answers a server that asked for a pause is asked twice as often again
 REQUEST = 48  # bytes of the program's own requests
 OWN = "127.45.66."  # each relay has an address of its own, which the server gives as its reference ID
 
