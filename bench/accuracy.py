@@ -1,9 +1,8 @@
-#!/usr/bin/env python3
 """How far the time that clients get is off, and how often by no more than it says; see accuracy.sh, which calls this.
 
-    accuracy.py PROGRAM [--minutes N] [--jitter MS] [--fade FROM:TO] [--change MINUTE] [--plan PLAN] [--ppm N ..]
+    python3 -m bench.accuracy [--minutes N] [--jitter MS] [--fade FROM:TO] [--change MINUTE] [--plan PLAN] [--ppm N ..]
 
-Each case has a receiver in software on the host's monotonic clock (soft_receiver.py), its feeder, a keeper, the server, and chronyd with -x
+Each case has a receiver in software on the host's monotonic clock, its feeder, a keeper, the server, and chronyd with -x
 as a client that asks each second and doesn't select; where chronyd isn't installed this script asks. Beside it the same pulses go through
 `decode` and chrony_sock.py into a chronyd of their own. No clock is touched.
 """
@@ -18,9 +17,11 @@ import tempfile
 import time
 from typing import Callable
 
-from accuracy_case import Case, Plan
-from kept import Wrong
-from soft_receiver import pair
+from bench.accuracy_case import Case, Plan
+from lab import ends
+from lab.kept import Wrong
+from lab.program import program
+from lab.receiver import pair
 
 
 def run(plan: Plan, ppms: list[float], folder: pathlib.Path, say: Callable[[str], None]) -> None:
@@ -58,7 +59,6 @@ def run(plan: Plan, ppms: list[float], folder: pathlib.Path, say: Callable[[str]
 
 def read_words() -> argparse.Namespace:
     words = argparse.ArgumentParser(description=__doc__, formatter_class=argparse.RawDescriptionHelpFormatter)
-    words.add_argument("program")
     words.add_argument("--plan", default="dcf", choices=("dcf", "msf", "wwvb"))
     words.add_argument("--minutes", type=int, default=30)
     words.add_argument("--jitter", type=float, default=8)
@@ -70,24 +70,20 @@ def read_words() -> argparse.Namespace:
     return words.parse_args()
 
 
-def main() -> int:
+def main() -> None:
     asked = read_words()
     fade = (round(60 * asked.fade[0]), round(60 * asked.fade[1]))
-    plan = Plan(asked.program, asked.plan, 60 * asked.minutes, asked.jitter, asked.outliers, fade, round(60 * asked.change))
+    plan = Plan(asked.plan, 60 * asked.minutes, asked.jitter, asked.outliers, fade, round(60 * asked.change))
     signal.signal(signal.SIGTERM, signal.default_int_handler)
+    program()  # it has to be there
     with tempfile.TemporaryDirectory() as folder:
+        if asked.keep:
+            asked.keep.mkdir(mode=0o700)
         try:
-            if not os.access(asked.program, os.X_OK):
-                raise OSError(f"{asked.program} is no program")
-            os.environ["RADIO_NTPD"] = os.path.abspath(asked.program)
-            if asked.keep:
-                asked.keep.mkdir(mode=0o700)
             run(plan, asked.ppm, asked.keep or pathlib.Path(folder), print)
-        except (OSError, Wrong, KeyboardInterrupt) as fault:
-            print(f"accuracy.py: {str(fault) or 'ended from outside'}", file=sys.stderr)
-            return 1
-    return 0
+        except Wrong as fault:
+            sys.exit(f"accuracy.py: {fault}")
 
 
 if __name__ == "__main__":
-    sys.exit(main())
+    ends.run(main)

@@ -11,4 +11,4 @@
 set -eu
 . "$(dirname "$0")/built.sh"
 rm -rf "$work"
-exec python3 -B "$top/bench/accuracy.py" "$program" "$@"
+exec python3 -B -m bench.accuracy "$@"

@@ -5,15 +5,17 @@ import shutil
 import signal
 import statistics
 import subprocess
-import sys
+import time
 from typing import NamedTuple
 
-from asked import Reading, ask, chrony_readings, tracking
+from bench.chrony import Reading, chrony_readings, tracking
+from lab import receiver
+from lab.client import ask
+from lab.kept import Kept
+from lab.packets import UNIX, WHOLE
+from lab.program import TOP, program
 
-HERE = pathlib.Path(__file__).resolve().parent
-FEEDERS = HERE.parent / "feeders"
-sys.path.insert(0, str(HERE.parent / "checks"))
-from kept import Kept  # noqa: E402
+FEEDERS = TOP / "feeders"
 
 QUICK = 0.001  # an exchange that took longer, in seconds, was kept waiting by the host's other work, and says nothing of the server's time
 AFTER = 180  # for how long after a fade clients may be told of a page without the drift in it, in seconds
@@ -27,7 +29,6 @@ OWN = "port 0\ncmdport 0\nbindcmdaddress {folder}/cmd\npidfile {folder}/pid\n"
 class Plan(NamedTuple):
     """What is run. Times are in seconds since the beginning, `jitter` in milliseconds, `outliers` a share of 1."""
 
-    program: str
     plan: str
     seconds: int
     jitter: float
@@ -66,10 +67,10 @@ class Case:
     def command(self, seed: int) -> str:
         """The receiver and its feeder, for the keeper's file. The pulses go into a file too."""
         plan = self.plan
-        receiver = [HERE / "soft_receiver.py", "--plan", plan.plan, "--form", "edges", "--live", plan.seconds + LONGER, "--history", HISTORY]
-        receiver += ["--jitter", plan.jitter, "--outliers", plan.outliers, "--ppm", self.ppm, "--seed", seed]
-        receiver += ["--since", "{!r},{!r}".format(*self.since), "--fade", "{}:{}".format(*plan.fade)]
-        return f"{' '.join(map(str, receiver))} | {FEEDERS / 'edges_to_log.py'} | tee {self.pulses}"
+        words = ["--plan", plan.plan, "--form", "edges", "--live", plan.seconds + LONGER, "--history", HISTORY]
+        words += ["--jitter", plan.jitter, "--outliers", plan.outliers, "--ppm", self.ppm, "--seed", seed]
+        words += ["--since", "{!r},{!r}".format(*self.since), "--fade", "{}:{}".format(*plan.fade)]
+        return f"{' '.join(receiver.command(*words))} | {FEEDERS / 'edges_to_log.py'} | tee {self.pulses}"
 
     def start(self) -> None:
         bridge = self.folder / "bridge"
@@ -80,7 +81,7 @@ class Case:
             log = self.pipe(["tail", "-n", "+1", "-f", self.pulses], None)
             if self.steady:
                 log = self.pipe([FEEDERS / "steady.py"], log.stdout)
-            decode = self.pipe([self.plan.program, "decode", "--plan", self.plan.plan, "--log", "/dev/stdin"], log.stdout)
+            decode = self.pipe([program(), "decode", "--plan", self.plan.plan, "--log", "/dev/stdin"], log.stdout)
             self.pipe([FEEDERS / "chrony_sock.py", bridge / "radio.sock"], decode.stdout)
         self.kept.start()
         self.kept.waits(" serves ")
@@ -101,8 +102,10 @@ class Case:
         """Asks the chronyd that has the pulses by its socket, and the server itself where no chronyd does."""
         if self.other:
             self.bridged += tracking(self.folder / "bridge" / "cmd")
-        if not self.judge and (answer := ask(self.kept.port, 0.3)) is not None and answer.synchronised:
-            self.readings.append(Reading(answer.unix, answer.sent - 2_208_988_800 - answer.unix, answer.distance + answer.took / 2, answer.took))
+        if not self.judge and (answer := ask(self.kept.port, 0.3)) is not None and answer.has_time:
+            unix = time.time() - time.monotonic() + (answer.left + answer.came) / 2
+            took = answer.came - answer.left
+            self.readings.append(Reading(unix, answer.header.transmit / WHOLE - UNIX - unix, answer.distance + took / 2, took))
 
     def end(self) -> None:
         """Ends all that was started, and takes what the judge has written; the keeper's files come into the case's folder."""

@@ -1,7 +1,6 @@
-#!/usr/bin/env python3
 """What `radio_keeper calibrate` says of receivers in software; see calibrate.sh, which calls this.
 
-    calibrate.py PROGRAM [--minutes N] [--jitter MS ..]
+    python3 -m bench.calibrate [--minutes N] [--jitter MS ..]
 """
 
 import argparse
@@ -9,28 +8,22 @@ import os
 import pathlib
 import re
 import socket
-import struct
 import subprocess
-import sys
 import tempfile
 import threading
 import time
 
-import ends
+from lab import ends, receiver
+from lab.client import socket_on
+from lab.packets import reply, stamp
+from lab.program import TOP, program
 
-TOP = pathlib.Path(__file__).resolve().parent.parent
 PLANS = ("dcf", "msf", "wwvb")
 LAG = 23  # of the receivers, in milliseconds
 AHEAD = 0.04  # by how many seconds the server is ahead of the host's clock
 PACE = 16  # seconds between two requests to it
-EPOCH = 2_208_988_800
 OUTLIERS = 0.03
 SAID = re.compile(r"come (-?[\d.]+) ms late, within ([\d.]+) ms; a closing mark scatters by ([\d.]+) ms")
-
-
-def stamp(ahead: float) -> int:
-    """The time of a clock this many seconds ahead of the host's, as an NTP timestamp."""
-    return int((time.time() + ahead + EPOCH) * 2**32) % 2**64
 
 
 def serve(link: socket.socket) -> None:
@@ -40,22 +33,20 @@ def serve(link: socket.socket) -> None:
             datagram, client = link.recvfrom(1024)
         except OSError:
             return
-        received = stamp(AHEAD)
-        head = struct.pack(">BBBbII4s", 0x24, 1, 6, -20, 0, 66, b"TEST") + struct.pack(">Q", received)
-        link.sendto(head + datagram[40:48] + struct.pack(">QQ", received, stamp(AHEAD)), client)
+        link.sendto(reply(datagram, stamp(time.time() + AHEAD), stamp(time.time() + AHEAD)), client)
 
 
 def began(folder: pathlib.Path, plan: str, jitter: float, ahead: float, minutes: int, port: int | None, seed: int) -> subprocess.Popen:
     """Starts `calibrate` on a receiver whose sender's clock is `ahead` of the host's, against a server's port or the host's clock."""
     folder.mkdir()
     since = f"{time.monotonic()!r},{time.time() + ahead!r}"
-    receiver = [sys.executable, "-B", TOP / "bench/soft_receiver.py", "--plan", plan, "--live", 60 * minutes + 300, "--history", 3, "--since", since]
-    receiver += ["--jitter", jitter, "--outliers", OUTLIERS, "--lag", LAG, "--seed", seed]
+    words = receiver.command("--plan", plan, "--live", 60 * minutes + 300, "--history", 3, "--since", since,
+                             "--jitter", jitter, "--outliers", OUTLIERS, "--lag", LAG, "--seed", seed)
     (folder / "station.toml").write_text(f'[[radio]]\nplan = "{plan}"\nlog = "x"\n')
-    (folder / "keeper.toml").write_text(f"station = \"station.toml\"\n[[radio]]\ncommand = '''exec {' '.join(map(str, receiver))}'''\n")
-    words = [TOP / "radio_keeper", "calibrate", "--config", folder / "keeper.toml", "--minutes", minutes]
-    words += ["--server", "127.0.0.1", "--port", port, "--pace", PACE] if port else []
-    return subprocess.Popen(list(map(str, words)), stdin=subprocess.DEVNULL, stdout=subprocess.PIPE, stderr=subprocess.PIPE, text=True)
+    (folder / "keeper.toml").write_text(f"station = \"station.toml\"\n[[radio]]\ncommand = '''exec {' '.join(words)}'''\n")
+    asked = [TOP / "radio_keeper", "calibrate", "--config", folder / "keeper.toml", "--minutes", minutes]
+    asked += ["--server", "127.0.0.1", "--port", port, "--pace", PACE] if port else []
+    return subprocess.Popen(list(map(str, asked)), stdin=subprocess.DEVNULL, stdout=subprocess.PIPE, stderr=subprocess.PIPE, text=True)
 
 
 def row(plan: str, jitter: float, name: str, child: subprocess.Popen) -> str:
@@ -71,16 +62,12 @@ def row(plan: str, jitter: float, name: str, child: subprocess.Popen) -> str:
 
 def main() -> int:
     words = argparse.ArgumentParser(description=__doc__, formatter_class=argparse.RawDescriptionHelpFormatter)
-    words.add_argument("program")
     words.add_argument("--minutes", type=int, default=20)
     words.add_argument("--jitter", type=float, nargs="+", default=[2, 8, 15])
     asked = words.parse_args()
-    if not os.access(asked.program, os.X_OK):
-        raise OSError(f"{asked.program} is no program")
-    os.environ["RADIO_NTPD"] = os.path.abspath(asked.program)
+    os.environ["RADIO_NTPD"] = program()
     cases: list[tuple[str, float, str, subprocess.Popen]] = []
-    with tempfile.TemporaryDirectory() as folder, socket.socket(socket.AF_INET, socket.SOCK_DGRAM) as link:
-        link.bind(("127.0.0.1", 0))
+    with tempfile.TemporaryDirectory() as folder, socket_on() as link:
         threading.Thread(target=serve, args=(link,), daemon=True).start()
         try:
             for plan in PLANS:

@@ -10,6 +10,6 @@ set -eu
 rm -rf "$work"
 if [ "${1:-}" = spread ]; then
     shift
-    exec python3 -B "$top/bench/calibrate_spread.py" "$@"
+    exec python3 -B -m bench.calibrate_spread "$@"
 fi
-exec python3 -B "$top/bench/calibrate.py" "$program" "$@"
+exec python3 -B -m bench.calibrate "$@"

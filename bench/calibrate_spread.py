@@ -1,22 +1,17 @@
-#!/usr/bin/env python3
 """How far off the lag is that `calibrate` works out, and how far it says that it may be: over many receivers in software whose lag is known.
 It calls the keeper's own code on made logs, so it takes no waiting; calibrate.sh calls it for `spread`.
 
-    calibrate_spread.py [--seeds N] [--jitter MS] [--minutes N ..]
+    python3 -m bench.calibrate_spread [--seeds N] [--jitter MS] [--minutes N ..]
 """
 
 import argparse
-import pathlib
 import statistics
-import sys
 
-import ends
-from known_logs import BEGIN, FIRST, since_1900
-from soft_receiver import MINUTE, SECOND, Faults, made_log
-
-sys.path.insert(0, str(pathlib.Path(__file__).resolve().parent.parent))
-from keeper.lateness import Minutes, result  # noqa: E402
-from keeper.reception import EPOCH  # noqa: E402
+from bench.known_logs import BEGIN, FIRST, since_1900
+from keeper.lateness import Minutes, result
+from lab import ends
+from lab.packets import UNIX
+from lab.receiver import MINUTE, SECOND, Faults, made_log
 
 PLANS = ("dcf", "msf", "wwvb")
 LAG = 23_000  # of the receivers, in microseconds
@@ -26,7 +21,7 @@ OUTLIERS = 0.03
 def worked_out(plan: str, jitter: float, minutes: int, seed: int) -> tuple[float, float]:
     """By how much the lag of a receiver is off, and its standard error as it is printed, in milliseconds. Each minute is believed."""
     first = since_1900(FIRST)
-    taken = Minutes(first - EPOCH - BEGIN / SECOND)
+    taken = Minutes(first - UNIX - BEGIN / SECOND)
     for true, start, width in made_log(plan, FIRST, minutes, Faults(jitter=1000 * jitter, outliers=OUTLIERS, lag=LAG), seed, BEGIN):
         taken.pulse(start, width)
         since = true - BEGIN

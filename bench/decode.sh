@@ -10,7 +10,7 @@ set -eu
 minutes=${1:-90000}
 runs=${2:-9}
 . "$(dirname "$0")/built.sh"
-python3 "$top/bench/make_dcf_log.py" --minutes "$minutes" --jitter 2500 > "$work/log"
+python3 -B -m lab.receiver --plan dcf --minutes "$minutes" --jitter 2.5 > "$work/log"
 gcc -O2 -o "$work/plain" "$top/bench/plain_decoder.c"
 python3 -B - "$runs" "$program" "$work/plain" "$work/log" <<'PY'
 import os, resource, subprocess, sys

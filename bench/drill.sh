@@ -10,9 +10,8 @@ set -eu
 runs=${1:-20}
 . "$(dirname "$0")/built.sh"
 gcc -O2 -o "$work/measure" "$top/bench/measure.c"
-cd "$top/bench"
 for plan in dcf msf wwvb; do
-    python3 -c "import made_log; print(made_log.made('$plan', 3981312000, 1440, 7), end='')" > "$work/$plan"
+    python3 -B -c "from lab.model.spelling import made_log; print(made_log('$plan', 7).decode(), end='')" > "$work/$plan"
 done
 echo "three logs of $(cat "$work/dcf" "$work/msf" "$work/wwvb" | wc -c) bytes, the least of $runs runs on $(nproc) processors"
 for plan in dcf msf wwvb; do

@@ -1,4 +1,3 @@
-#!/usr/bin/env python3
 """Runs the merge gate and prints the processor time that it took, by crate and by kind.
 
     bench/gate_time.sh [COMMAND ARGUMENT..]

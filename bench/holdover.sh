@@ -11,6 +11,6 @@ set -eu
 rm -rf "$work"
 if [ "${1:-}" = refused ]; then
     shift
-    exec python3 -B "$top/bench/holdover_refused.py" "$program" "$@"
+    exec python3 -B -m bench.holdover_refused "$@"
 fi
-exec python3 -B "$top/bench/steadied.py" holdover "$program" "$@"
+exec python3 -B -m bench.steadied holdover "$@"

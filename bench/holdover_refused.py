@@ -1,7 +1,6 @@
-#!/usr/bin/env python3
 """Up to which bound the time holds what it promises while minutes are refused, by how far the host's counter is off; holdover.sh calls this.
 
-    holdover_refused.py PROGRAM [--seeds N] [--jitter MS ..] [--ppm N ..] [--plan PLAN]
+    python3 -m bench.holdover_refused [--seeds N] [--jitter MS ..] [--ppm N ..] [--plan PLAN]
 
 Fifteen minutes of reception by receivers in software, then an hour in which each minute has a bit of no width and is refused. Such a minute
 makes a page that begins at the last verdict's offset, without what the counter has drifted since. A request comes in the middle of each minute.
@@ -9,12 +8,12 @@ makes a page that begins at the last verdict's offset, without what the counter 
 
 import argparse
 import pathlib
-import sys
 import tempfile
 
-from known_logs import BEGIN, FIRST, asked
-from soft_receiver import MINUTE, Faults, made_log
-from steadied import write_logs
+from bench.known_logs import BEGIN, FIRST, asked
+from bench.steadied import write_logs
+from lab import ends
+from lab.receiver import MINUTE, Faults, made_log
 
 GOOD = 15  # minutes that are received
 BAD = 60  # minutes that are refused
@@ -28,7 +27,7 @@ def with_refused_minutes(lines):
         yield true, start, BROKEN if minute >= GOOD and moment == MINUTE // 2 else width
 
 
-def row(program: str, plan: str, jitter: float, ppm: float, seeds: int) -> str:
+def row(plan: str, jitter: float, ppm: float, seeds: int) -> str:
     """What all runs of a counter came to: what was reported in the first minute at most, when a run was first farther off than it said, the
     least that one said then, and the greatest error an hour on. Moments are in minutes, the others in milliseconds."""
     broken: list[tuple[float, float]] = []
@@ -40,7 +39,7 @@ def row(program: str, plan: str, jitter: float, ppm: float, seeds: int) -> str:
             faults = Faults(jitter=1000 * jitter, outliers=0.03, ppm=ppm)
             _, log = write_logs(folder, with_refused_minutes(made_log(plan, FIRST, GOOD + BAD, faults, seed, BEGIN)))
             moments = [round(BEGIN + (minute + 0.5) * MINUTE) for minute in range(GOOD, GOOD + BAD)]
-            told = asked(program, plan, log.read_text().splitlines(), moments, folder, ppm)
+            told = asked(plan, log.read_text().splitlines(), moments, folder, ppm)
             first.append(told[0][1][1])
             last.append(told[-1][1])
             broken += [((at - BEGIN) / MINUTE - GOOD, said) for at, (error, said) in told if abs(error) > said]
@@ -49,26 +48,18 @@ def row(program: str, plan: str, jitter: float, ppm: float, seeds: int) -> str:
     return f"{plan:5} {jitter:3g} {ppm:4g} | {max(first):8.1f} | {since} | {ends}"
 
 
-def main() -> int:
+def main() -> None:
     words = argparse.ArgumentParser(description=__doc__, formatter_class=argparse.RawDescriptionHelpFormatter)
-    words.add_argument("program")
     words.add_argument("--seeds", type=int, default=20)
     words.add_argument("--jitter", type=float, nargs="+", default=[2, 8, 15])
     words.add_argument("--ppm", type=float, nargs="+", default=[0, 10, 15, 20, 30, 50, 100])
     words.add_argument("--plan", default="dcf", choices=("dcf", "msf", "wwvb"))
     asked_for = words.parse_args()
     print("plan   ms  ppm | reported | first off after (min), reporting (ms) | an hour on: off, reported (ms)")
-    try:
-        for jitter in asked_for.jitter:
-            for ppm in asked_for.ppm:
-                print(row(asked_for.program, asked_for.plan, jitter, ppm, asked_for.seeds), flush=True)
-    except OSError as fault:
-        print(f"holdover_refused.py: {fault}", file=sys.stderr)
-        return 1
-    except KeyboardInterrupt:
-        return 130
-    return 0
+    for jitter in asked_for.jitter:
+        for ppm in asked_for.ppm:
+            print(row(asked_for.plan, jitter, ppm, asked_for.seeds), flush=True)
 
 
 if __name__ == "__main__":
-    sys.exit(main())
+    ends.run(main)

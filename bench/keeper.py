@@ -4,16 +4,12 @@ import argparse
 import os
 import pathlib
 import re
-import socket
 import statistics
-import struct
-import sys
 import time
 
-TOP = pathlib.Path(__file__).resolve().parent.parent
-sys.dont_write_bytecode = True
-sys.path.insert(0, str(TOP / "checks"))
-from kept import EPOCH, PLANS, Kept, base_now, descendants, receiver  # noqa: E402
+from lab import ends
+from lab.client import offset
+from lab.kept import PLANS, Kept, base_now, descendants, radio
 
 STARTS = 30
 CHANGES = 10
@@ -24,31 +20,7 @@ TICKS = os.sysconf("SC_CLK_TCK")
 
 
 def radios(base: float, plans: tuple[str, ...]) -> list[tuple[str, str]]:
-    return [(plan, f'command = "{receiver(plan, base)}"') for plan in plans]
-
-
-def offset(port: int, base: float) -> float:
-    """The served time less the receiver's (s), by the shortest of some exchanges."""
-    best = (9.0, 0.0)
-    with socket.socket(socket.AF_INET, socket.SOCK_DGRAM) as client:
-        client.connect(("127.0.0.1", port))
-        client.setblocking(False)
-        for _ in range(ASKED):
-            left = time.monotonic_ns()
-            client.send(bytes([0x23, 0, 6, 0xEC]) + bytes(36) + struct.pack(">Q", left))
-            while time.monotonic_ns() - left < 20_000_000:
-                try:
-                    answer = client.recv(100)
-                except BlockingIOError:
-                    continue
-                came = time.monotonic_ns()
-                if struct.unpack(">Q", answer[24:32])[0] != left:
-                    continue  # it answers an earlier request, late
-                receive, transmit = struct.unpack(">QQ", answer[32:48])
-                middle = ((receive + transmit) // 2 * 1_000_000 >> 32) - round((base + EPOCH) * 1e6)
-                best = min(best, ((came - left) / 1e9, (middle - (left + came) / 2e3) / 1e6))
-                break
-    return best[1]
+    return [(plan, f'command = "{radio(plan, base)}"') for plan in plans]
 
 
 def starts(base: float) -> None:
@@ -59,7 +31,7 @@ def starts(base: float) -> None:
         for run in range(1, STARTS + 1):
             kept.waits("has the time", 60, run)
             time.sleep(0.1)
-            errors.append(offset(kept.port, base) * 1e6)
+            errors.append(offset(kept.port, base, ASKED) * 1e6)
         text = kept.text()
         lags = [float(one) for one in re.findall(r"began (-?\d+) us late", text)][:STARTS]
         bounds = [float(one) for one in re.findall(r"known within (\d+) us", text)][:STARTS]
@@ -113,7 +85,7 @@ def costs(base: float) -> None:
         kept.waits("run 1 has the time")
         time.sleep(3)
         mine = [kept.process.pid, *descendants(kept.process.pid)]
-        mine = [one for one in mine if "receiver.py" not in pathlib.Path(f"/proc/{one}/cmdline").read_text()]
+        mine = [one for one in mine if "lab.receiver" not in pathlib.Path(f"/proc/{one}/cmdline").read_text()]
         before, keeper = sum(used(one) for one in mine), used(kept.process.pid)
         time.sleep(STEADY)
         steady, alone = sum(used(one) for one in mine) - before, used(kept.process.pid) - keeper
@@ -141,4 +113,4 @@ def main() -> None:
 
 
 if __name__ == "__main__":
-    main()
+    ends.run(main)

@@ -5,8 +5,6 @@
 #
 #     bench/keeper.sh [starts|changes|costs ...]
 set -eu
-if [ -z "${RADIO_NTPD:-}" ]; then
-    . "$(dirname "$0")/built.sh"
-    export RADIO_NTPD="$program"
-fi
-exec python3 -B "$(dirname "$0")/keeper.py" "$@"
+. "$(dirname "$0")/built.sh"
+rm -rf "$work"
+exec python3 -B -m bench.keeper "$@"

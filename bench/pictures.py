@@ -1,43 +1,40 @@
-#!/usr/bin/env python3
 """Draws the pictures of the pages from logs of receivers in software; see pictures.sh, which calls this.
 
-    pictures.py PROGRAM WORK PICTURES
+    python3 -m bench.pictures WORK PICTURES
 
 WORK is a folder to work in, and PICTURES the one that the pictures are written to.
 
-    reception.svg, offsets.svg  the day that `drill --seed 7` makes up, replayed from its logs (made_log.py)
+    reception.svg, offsets.svg  the day that `drill --seed 7` makes up, replayed from its logs
     day.svg                     a day of DCF77 and MSF with 8 ms of jitter, steady, two hours of it without any reception, a bound of 50 ms
     phase.svg                   four hours of DCF77 with 8 ms of jitter, as it came and steady
 """
 
 import dataclasses
-import os
 import pathlib
 import subprocess
 import sys
 from typing import BinaryIO
 
-import ends
-from known_logs import BEGIN, FIRST
-from made_log import made
-from soft_receiver import MINUTE, Faults, made_log
-from steadied import write_logs
+from bench.known_logs import BEGIN, FIRST
+from bench.steadied import write_logs
+from lab import ends
+from lab.model.spelling import made_log as drill_log
+from lab.program import TOP, program
+from lab.receiver import MINUTE, Faults, made_log
 
-TOP = pathlib.Path(__file__).resolve().parent.parent
-DRILL_FIRST = 3_981_312_000  # the first minute of drill's day, in seconds since 1900
 DAY = 1440  # minutes
 NOISY, SILENT = (300, 480), (720, 840)  # minutes in which 3 of a hundred bits of DCF77 are wrong, and in which nothing is received
 JITTER = Faults(jitter=8000, outliers=0.03, ppm=5)
 
 
-def journal(program: str, folder: pathlib.Path, name: str, logs: dict[str, list[str]], bound: int) -> list[str]:
+def journal(folder: pathlib.Path, name: str, logs: dict[str, list[str]], bound: int) -> list[str]:
     """Replays the logs of some plans, and gives the words that name the station and the journal for plot_journal.py."""
     script, station, written = (folder / f"{name}.{kind}" for kind in ("script", "toml", "journal"))
     rows = sorted((int(line.split()[0]), feed, line) for feed, lines in enumerate(logs.values()) for line in lines)
     script.write_text("".join(f"pulse {feed} {line}\n" for _, feed, line in rows))
     station.write_text(f"bound = {bound}\n" + "".join(f'[[radio]]\nplan = "{plan}"\nlog = "none"\n' for plan in logs))
     with written.open("wb") as sink:
-        call([program, "replay", "--station", station, "--script", script], sink)
+        call([program(), "replay", "--station", station, "--script", script], sink)
     return ["--station", str(station), str(written)]
 
 
@@ -65,16 +62,14 @@ def draw(*words: object) -> None:
 
 
 def main() -> int:
-    if len(sys.argv) != 4:
+    if len(sys.argv) != 3:
         print(__doc__, file=sys.stderr)
         return 2
-    program, folder, pictures = sys.argv[1], pathlib.Path(sys.argv[2]), pathlib.Path(sys.argv[3])
-    if not os.access(program, os.X_OK):
-        raise OSError(f"{program} is no program")
-    drilled = journal(program, folder, "drill", {plan: made(plan, DRILL_FIRST, DAY, 7).splitlines() for plan in ("dcf", "msf", "wwvb")}, 1000)
+    folder, pictures = pathlib.Path(sys.argv[1]), pathlib.Path(sys.argv[2])
+    drilled = journal(folder, "drill", {plan: drill_log(plan, 7).decode().splitlines() for plan in ("dcf", "msf", "wwvb")}, 1000)
     draw("--reception", pictures / "reception.svg", "--offsets", pictures / "offsets.svg", *drilled)
     logs = {plan: received(folder, plan, seed) for seed, plan in enumerate(("dcf", "msf"))}
-    draw("--day", pictures / "day.svg", *journal(program, folder, "day", logs, 50))
+    draw("--day", pictures / "day.svg", *journal(folder, "day", logs, 50))
     raw, _ = write_logs(folder, made_log("dcf", FIRST, 240, JITTER, 1, BEGIN))
     draw("--phase", pictures / "phase.svg", raw)
     return 0

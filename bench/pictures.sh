@@ -4,5 +4,6 @@
 #
 #     bench/pictures.sh [FOLDER]        the folder that they are written to (docs/pictures)
 set -eu
+pictures=$(realpath -m "${1:-$(dirname "$0")/../docs/pictures}")
 . "$(dirname "$0")/built.sh"
-python3 -B "$top/bench/pictures.py" "$program" "$work" "${1:-$top/docs/pictures}"
+python3 -B -m bench.pictures "$work" "$pictures"

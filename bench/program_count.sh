@@ -6,15 +6,12 @@
 #     bench/program_count.sh
 set -eu
 . "$(dirname "$0")/built.sh"
-python3 -B "$top/bench/make_dcf_log.py" --minutes 600 --jitter 2500 > "$work/dcf.long"
-for plan in msf wwvb; do
-    python3 -B -c "import sys; sys.path.insert(0, '$top/bench'); import made_log; print(made_log.made('$plan', 3981312000, 600, 7), end='')" > "$work/$plan.long"
-done
 for plan in dcf msf wwvb; do
+    python3 -B -m lab.receiver --plan "$plan" --minutes 600 --jitter 2.5 > "$work/$plan.long"
     head -n "$(($(wc -l < "$work/$plan.long") / 2))" "$work/$plan.long" > "$work/$plan.short"
 done
-python3 -B "$top/bench/make_script.py" --station > "$work/station"
-python3 -B "$top/bench/make_script.py" --lines 40000 > "$work/script.long"
+python3 -B -m bench.make_script --station > "$work/station"
+python3 -B -m bench.make_script --lines 40000 > "$work/script.long"
 head -n 20000 "$work/script.long" > "$work/script.short"
 # Journals of four servers' samples, as bench/migrate.sh has them.
 python3 -B - > "$work/journal.long" <<'PY'

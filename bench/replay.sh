@@ -10,8 +10,8 @@ short=${1:-100000}
 long=${2:-1000000}
 runs=${3:-5}
 . "$(dirname "$0")/built.sh"
-python3 -B "$top/bench/make_script.py" --station > "$work/station"
-python3 -B "$top/bench/make_script.py" --lines "$long" > "$work/long"
+python3 -B -m bench.make_script --station > "$work/station"
+python3 -B -m bench.make_script --lines "$long" > "$work/long"
 head -n "$short" "$work/long" > "$work/short"
 sed -n 's/^pulse 0 //p' "$work/long" > "$work/log"
 

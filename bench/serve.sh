@@ -14,8 +14,7 @@ runs=${2:-7}
 BOUND=1.5
 # What the server receives in one phase at the most, but for some that get it going.
 [ $((2 * replies * runs)) -le 990000 ] || { echo "more than 990000 replies in all" >&2; exit 1; }
-cd "$(dirname "$0")/.."
-. bench/built.sh
+. "$(dirname "$0")/built.sh"
 PATH="$PATH:/usr/sbin:/sbin"
 servers=
 finish() {
@@ -31,7 +30,7 @@ gcc -O2 -o "$work/measure" bench/measure.c
 
 # A free port below those that the host gives out by itself.
 port() {
-    python3 -B checks/ask.py port
+    python3 -B -c "from lab.client import free_port; print(free_port())"
 }
 
 # A station of the example's radios with this port.
@@ -113,7 +112,7 @@ cat "$work/ours.least" "$work/gated-1.least" "$work/ours-65536.least" "$work/gat
 instructions() {
     turns=$1 at=$2
     shift 2
-    python3 -B bench/ask_on.py "$at" &
+    python3 -B -m bench.ask_on "$at" &
     client=$!
     servers="$servers $client"
     valgrind --tool=callgrind --callgrind-out-file="$work/callgrind" "$@" > "$work/counted" 2> "$work/valgrind"

@@ -4,6 +4,6 @@
 #
 #     bench/service.sh
 . "$(dirname "$0")/built.sh"
-python3 -B "$top/bench/make_logs.py" --minutes 10 --jitter 0 "$work" > "$work/made"
-python3 -B "$top/bench/service_time.py" "$program" "$work/msf.log" || exit
-python3 -B "$top/bench/service_instructions.py" "$program"
+rm -rf "$work"
+python3 -B -m bench.service_time || exit
+python3 -B -m bench.service_instructions

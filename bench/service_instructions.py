@@ -1,36 +1,46 @@
-#!/usr/bin/env python3
 """The user instructions of a reply, of a run with its own socket and of one that a supervisor holds.
 
-    bench/service_instructions.py PROGRAM
+    python3 -m bench.service_instructions
 
 Each is run under valgrind twice, with 1000 and with 3000 requests one after the other; the
-difference is divided by 2000. Exit status: 0, 1 where a held run takes more than 20 more.
+difference is divided by 2000. In each the log ends where the link's moments begin: an answer from
+an old page takes more instructions. Exit status: 0, 1 where a held run takes more than 20 more.
 """
 
 import argparse
 import os
 import re
 import subprocess
-import sys
 import tempfile
 import time
 from pathlib import Path
 
-import ends
-
-sys.path.insert(0, str(Path(__file__).resolve().parent.parent / "checks"))
-import held  # noqa: E402
+from lab import ends, held
+from lab.client import socket_on
+from lab.program import program
 
 MOST = 20
 FEW, MANY = 1000, 3000
 
 
-def instructions(program: str, folder: Path, is_held: bool, count: int) -> int:
+def station(folder: Path, port: int, is_held: bool) -> str:
+    """A station whose log ends where the moments begin; that of a held run is a shifted copy."""
+    lines = [line.split() for line in held.LOG.read_text().splitlines()]
+    last = int(lines[-1][0])
+    if not is_held:
+        return held.station(port).replace("start = 0", f"start = {last}", 1)
+    ahead = int(time.monotonic() * 1e6) - last
+    log = folder / "pulses.log"
+    log.write_text("".join(f"{int(at) + ahead} {width}\n" for at, width in lines))
+    return held.station(port).replace(str(held.LOG), str(log), 1)
+
+
+def instructions(folder: Path, is_held: bool, count: int) -> int:
     """How many instructions a run takes that answers `count` requests."""
-    link = held.bound()
+    link = socket_on()
     port = link.getsockname()[1]
     path = folder / "station.toml"
-    path.write_text(held.station(port))
+    path.write_text(station(folder, port, is_held))
     env = {name: value for name, value in os.environ.items() if name != "RADIO_NTPD_SERVICE"}
     numbers: list[int] = []
     if is_held:
@@ -39,10 +49,10 @@ def instructions(program: str, folder: Path, is_held: bool, count: int) -> int:
     else:
         link.close()
     child = subprocess.Popen(
-        ["valgrind", "--tool=callgrind", f"--callgrind-out-file={folder}/callgrind", program, "serve",
+        ["valgrind", "--tool=callgrind", f"--callgrind-out-file={folder}/callgrind", program(), "serve",
          "--station", str(path), "--during", str(count)], env=env, pass_fds=numbers,
         stdout=subprocess.DEVNULL, stderr=subprocess.PIPE, text=True)
-    client = held.bound()
+    client = socket_on()
     client.settimeout(0.2)
     answered = 0
     end = time.monotonic() + 120
@@ -62,14 +72,12 @@ def instructions(program: str, folder: Path, is_held: bool, count: int) -> int:
 
 
 def main() -> int:
-    parser = argparse.ArgumentParser(description=__doc__.splitlines()[0])
-    parser.add_argument("program")
-    words = parser.parse_args()
+    argparse.ArgumentParser(description=__doc__.splitlines()[0]).parse_args()
     with tempfile.TemporaryDirectory() as name:
         folder = Path(name)
         each = [
-            (instructions(words.program, folder, is_held, MANY)
-             - instructions(words.program, folder, is_held, FEW)) / (MANY - FEW)
+            (instructions(folder, is_held, MANY)
+             - instructions(folder, is_held, FEW)) / (MANY - FEW)
             for is_held in (False, True)
         ]
     print(f"instructions a reply: {each[0]:.1f} with its own socket, {each[1]:.1f} held")

@@ -1,9 +1,8 @@
-#!/usr/bin/env python3
 """How far the time that a held run serves is from that of its log, by CLOCK_MONOTONIC.
 
-    bench/service_time.py [--starts N] [--load N] PROGRAM LOG
+    python3 -m bench.service_time [--starts N] [--load N]
 
-LOG is an MSF log without jitter (bench/make_logs.py). At each of N starts a client asks 200 times
+The log is MSF's, without jitter. At each of N starts a client asks 200 times
 and takes the answer with the least delay; its offset is printed in microseconds, the greatest of
 all starts, without and with a load of N busy processes. Exit status: 0, 1 where an offset is
 above 50 us, 2 invalid arguments.
@@ -18,14 +17,14 @@ import time
 from pathlib import Path
 from typing import Iterator
 
-import ends
-
-sys.path.insert(0, str(Path(__file__).resolve().parent.parent / "checks"))
-import held  # noqa: E402
+from lab import ends, held, receiver
+from lab.client import offset, socket_on
+from lab.packets import UNIX
 
 MOST = 50.0  # microseconds
 ASKS = 200
-DELAY = 2600  # the path delay of the made log, in microseconds
+DELAY = 2.6  # the path delay of the made log, in milliseconds
+MINUTES = 10
 
 
 @contextlib.contextmanager
@@ -41,29 +40,19 @@ def load(count: int) -> Iterator[None]:
             one.wait()
 
 
-def offset(port: int) -> float:
-    """The offset of the answer with the least delay, in microseconds."""
-    best = (1e9, 0.0)
-    client = held.client_ready(port)
-    held.with_time(port)
-    for number in range(ASKS):
-        before, after, answer = held.asked(client, port, number + 1)
-        base = held.MINUTE - held.MINUTE_AT
-        came, left = (held.stamp(answer, place) - base for place in (32, 40))
-        delay = (after - before) - (left - came)
-        best = min(best, (delay, ((came - before) + (left - after)) / 2 * 1e6))
-    return best[1]
-
-
-def starts(program: str, folder: Path, log: Path, count: int) -> list[float]:
-    """The offsets of `count` starts."""
+def starts(folder: Path, count: int) -> list[float]:
+    """The offsets of `count` starts, in microseconds."""
     found = []
+    log = folder / "msf.log"
+    with log.open("wb") as out:
+        subprocess.run(receiver.command("--plan", "msf", "--minutes", MINUTES, "--lag", DELAY), stdout=out, check=True)
     for _ in range(count):
-        link = held.bound()
+        link = socket_on()
         port = link.getsockname()[1]
-        station = held.station(port).replace(f'"{held.LOG}"', f'"{log}"\ndelay = {DELAY}')
-        run = held.Held(program, folder, station, sockets=(link,), signals="end")
-        found.append(offset(port))
+        station = held.station(port).replace(f'"{held.LOG}"', f'"{log}"\ndelay = {round(1000 * DELAY)}')
+        run = held.Held(folder, station, sockets=(link,), signals="end")
+        held.with_time(port)
+        found.append(1e6 * offset(port, held.MINUTE - held.MINUTE_AT - UNIX, ASKS))
         run.end()
         link.close()
     return found
@@ -71,8 +60,6 @@ def starts(program: str, folder: Path, log: Path, count: int) -> list[float]:
 
 def main() -> int:
     parser = argparse.ArgumentParser(description=__doc__.splitlines()[0])
-    parser.add_argument("program")
-    parser.add_argument("log", type=Path)
     parser.add_argument("--starts", type=int, default=30)
     parser.add_argument("--load", type=int, default=16)
     words = parser.parse_args()
@@ -81,7 +68,7 @@ def main() -> int:
         for busy in (0, words.load):
             with load(busy):
                 begun = time.monotonic()
-                found = starts(words.program, Path(name), words.log.resolve(), words.starts)
+                found = starts(Path(name), words.starts)
             most = max(abs(one) for one in found)
             bad |= most > MOST
             print(f"load {busy}: {len(found)} starts, {min(found):.1f} to {max(found):.1f} us from "

@@ -1,7 +1,8 @@
-# What the benches share that build a small program over copies of some crates. They begin with it: it sets `top`, the top of the
-# repository, and `work`, a folder to work in that is gone at the end, where built.sh did not.
+# What the benches share that build a small program over copies of some crates. They begin with it: it goes to the top of the
+# repository, `top`, and makes `work`, a folder to work in that is gone at the end, where built.sh did not.
 if [ -z "${program:-}" ]; then
     top=$(cd "$(dirname "$0")/.." && pwd)
+    cd "$top"
     work=$(mktemp -d)
     trap 'rm -rf "$work"' EXIT
 fi
@@ -19,20 +20,6 @@ bring() {
             if [ -d "$top/crates/$crate/$part" ]; then cp -a "$top/crates/$crate/$part" "$folder/crates/$crate/"; fi
         done
         grep "^$crate:" "$top/crates.txt" >> "$folder/crates.txt"
-    done
-}
-
-# Copies crates of an earlier commit below a folder, and lists them there: bring_of COMMIT FOLDER CRATE..
-bring_of() {
-    commit=$1
-    folder=$2
-    shift 2
-    mkdir -p "$folder/crates"
-    cp "$top/HANDLES" "$folder/"
-    git -C "$top" show "$commit:crates.txt" > "$folder/crates.all"
-    for crate in "$@"; do
-        git -C "$top" archive "$commit" "crates/$crate" | tar -x -C "$folder"
-        grep "^$crate:" "$folder/crates.all" >> "$folder/crates.txt"
     done
 }
 

@@ -1,9 +1,8 @@
-#!/usr/bin/env python3
-"""What steady.py does to what the program says, by receivers in software (soft_receiver.py) whose true moments are known.
+"""What steady.py does to what the program says, by receivers in software whose true moments are known.
 
-    steadied.py spread PROGRAM [--minutes N] [--seeds N]     how far off the moments are that `decode` reports, and how soon they are better
-    steadied.py year PROGRAM [--days N] [--bits SHARE ..]    whether any minute of a year of DCF77 says something else
-    steadied.py holdover PROGRAM [--seeds N] [--ppm N]       whether the time holds what it promises, an hour and six hours after reception
+    python3 -m bench.steadied spread [--minutes N] [--seeds N]     how far off the moments are that `decode` reports, and how soon they are better
+    python3 -m bench.steadied year [--days N] [--bits SHARE ..]    whether any minute of a year of DCF77 says something else
+    python3 -m bench.steadied holdover [--seeds N] [--ppm N]       whether the time holds what it promises, an hour and six hours after reception
 
 Each takes --jobs N too: in how many processes it works, one for each processor where it isn't given.
 
@@ -19,16 +18,14 @@ import os
 import pathlib
 import signal
 import statistics
-import sys
 import tempfile
 from typing import Callable, Iterable, Iterator, NoReturn, Sequence
 
-from known_logs import BEGIN, FIRST, Report, decode, errors, is_wrong, late, replay
-from soft_receiver import Faults, made_log
-
-sys.path.insert(0, str(pathlib.Path(__file__).parent.parent / "feeders"))
-
-from steady import Steady  # noqa: E402
+from bench.known_logs import BEGIN, FIRST, Report, decode, errors, is_wrong, late, replay
+from feeders.steady import Steady
+from lab import ends
+from lab.program import program
+from lab.receiver import Faults, made_log
 
 PLANS = ("dcf", "msf", "wwvb")
 JITTERS = (2, 8, 15)  # milliseconds
@@ -50,11 +47,11 @@ def write_logs(folder: pathlib.Path, lines: Iterable[tuple[int, int, int]]) -> t
     return raw, steadied
 
 
-def spread_of(program: str, plan: str, jitter: float, ppm: float, normal: bool, minutes: int) -> str:
+def spread_of(plan: str, jitter: float, ppm: float, normal: bool, minutes: int) -> str:
     with tempfile.TemporaryDirectory() as folder:
         lines = made_log(plan, FIRST, minutes, faults_of(jitter, normal, ppm), 1, BEGIN)
         logs = write_logs(pathlib.Path(folder), lines)
-        raw, steady = (errors(program, plan, log, ppm) for log in logs)
+        raw, steady = (errors(plan, log, ppm) for log in logs)
     before, after = statistics.pstdev(raw), statistics.pstdev(steady)
     shape = "normal" if normal else "even"
     return (
@@ -63,15 +60,15 @@ def spread_of(program: str, plan: str, jitter: float, ppm: float, normal: bool, 
     )
 
 
-def settled(program: str, plan: str, jitter: float, ppm: float, seeds: int) -> str:
+def settled(plan: str, jitter: float, ppm: float, seeds: int) -> str:
     """How far off the first minutes of a log are, over many receivers."""
     by_minute: dict[int, list[float]] = {}
     raw: list[float] = []
     with tempfile.TemporaryDirectory() as folder:
         for seed in range(seeds):
             logs = write_logs(pathlib.Path(folder), made_log(plan, FIRST, 16, faults_of(jitter, False, ppm), seed, BEGIN))
-            raw += errors(program, plan, logs[0], ppm)
-            for report in decode(program, plan, logs[1]):
+            raw += errors(plan, logs[0], ppm)
+            for report in decode(plan, logs[1]):
                 if report.said.startswith("verdict"):
                     by_minute.setdefault(round((report.close - BEGIN) / 60_000_000), []).append(late(report, ppm))
     cells = " ".join(f"{statistics.pstdev(by_minute[minute]):6.2f}" if minute in by_minute else "     -" for minute in (2, 3, 4, 6, 10, 16))
@@ -80,7 +77,7 @@ def settled(program: str, plan: str, jitter: float, ppm: float, seeds: int) -> s
 
 def spread(words: argparse.Namespace) -> int:
     jobs = [
-        functools.partial(spread_of, words.program, plan, jitter, ppm, normal, words.minutes)
+        functools.partial(spread_of, plan, jitter, ppm, normal, words.minutes)
         for normal in (False, True)
         for plan in PLANS
         for jitter in JITTERS
@@ -89,7 +86,7 @@ def spread(words: argparse.Namespace) -> int:
     print("plan  jitter   ms  ppm    raw  spread steady  spread  times    mean   worst    (ms)")
     show(side_by_side(jobs, words.jobs))
     print("plan   ms  ppm     raw  spread of the verdicts at minute 2, 3, 4, 6, 10 and 16, steady (ms)")
-    show(side_by_side([functools.partial(settled, words.program, plan, jitter, 50, words.seeds) for plan in PLANS for jitter in JITTERS], words.jobs))
+    show(side_by_side([functools.partial(settled, plan, jitter, 50, words.seeds) for plan in PLANS for jitter in JITTERS], words.jobs))
     return 0
 
 
@@ -128,12 +125,12 @@ def what(report: Report) -> list[str]:
     return words[:3] if words[0] == "differs" else words
 
 
-def some_days(program: str, bits: float, jitter: float, day: int, days: int) -> dict[str, int]:
+def some_days(bits: float, jitter: float, day: int, days: int) -> dict[str, int]:
     """Counts over some days of DCF77, from this day of the year on, on a counter that is 20 parts in a million off."""
     first = FIRST + datetime.timedelta(days=day)
     lines = made_log("dcf", first, 1440 * days, faults_of(jitter, False, 20, bits=bits, lost=0.001), day, BEGIN)
     with tempfile.TemporaryDirectory() as folder:
-        raw, steady = (decode(program, "dcf", log) for log in write_logs(pathlib.Path(folder), lines))
+        raw, steady = (decode("dcf", log) for log in write_logs(pathlib.Path(folder), lines))
     wrong_raw = {place for place, report in enumerate(raw) if is_wrong(report, first, 20)}
     wrong_steady = {place for place, report in enumerate(steady) if is_wrong(report, first, 20)}
     return {
@@ -150,7 +147,7 @@ def some_days(program: str, bits: float, jitter: float, day: int, days: int) -> 
 def year(words: argparse.Namespace) -> int:
     bad = 0
     for bits in words.bits:
-        jobs = [functools.partial(some_days, words.program, bits, words.jitter, day, min(10, words.days - day)) for day in range(0, words.days, 10)]
+        jobs = [functools.partial(some_days, bits, words.jitter, day, min(10, words.days - day)) for day in range(0, words.days, 10)]
         sums: dict[str, int] = {}
         for counts in side_by_side(jobs, words.jobs):
             sums = {name: sums.get(name, 0) + count for name, count in counts.items()}
@@ -160,7 +157,7 @@ def year(words: argparse.Namespace) -> int:
     return 1 if bad else 0
 
 
-def held(program: str, plan: str, jitter: float, ppm: float, normal: bool, seeds: int) -> str:
+def held(plan: str, jitter: float, ppm: float, normal: bool, seeds: int) -> str:
     """In how many of some runs the time was farther off than it said, an hour and six hours after reception."""
     passed = {True: [0, 0, 0], False: [0, 0, 0]}
     worst = {True: (0.0, 0.0), False: (0.0, 0.0)}
@@ -170,7 +167,7 @@ def held(program: str, plan: str, jitter: float, ppm: float, normal: bool, seeds
         for seed in range(seeds):
             logs = write_logs(folder, made_log(plan, FIRST, 15, faults_of(jitter, normal, ppm), seed, BEGIN))
             for steady, log in zip((False, True), logs):
-                replies = replay(program, plan, log, folder, ppm)
+                replies = replay(plan, log, folder, ppm)
                 if len(replies) != 2:
                     silent[steady] += 1
                     continue
@@ -182,7 +179,7 @@ def held(program: str, plan: str, jitter: float, ppm: float, normal: bool, seeds
 
 
 def holdover(words: argparse.Namespace) -> int:
-    jobs = [functools.partial(held, words.program, plan, jitter, words.ppm, normal, words.seeds) for normal in (False, True) for plan in PLANS for jitter in JITTERS]
+    jobs = [functools.partial(held, plan, jitter, words.ppm, normal, words.seeds) for normal in (False, True) for plan in PLANS for jitter in JITTERS]
     print(f"of {words.seeds} runs: how many were farther off than they said an hour on, six hours on, at either; had no time; worst error, what it said (ms)")
     print("plan  jitter  ms  ppm |    raw                                    | steady")
     show(side_by_side(jobs, words.jobs))
@@ -195,7 +192,6 @@ def main() -> int:
     for name, does in (("spread", spread), ("year", year), ("holdover", holdover)):
         kind = kinds.add_parser(name)
         kind.set_defaults(does=does)
-        kind.add_argument("program")
         kind.add_argument("--jobs", type=int, default=os.cpu_count(), help="how many processes work on it (one for each processor)")
     kinds.choices["spread"].add_argument("--minutes", type=int, default=1440)
     kinds.choices["spread"].add_argument("--seeds", type=int, default=40)
@@ -209,16 +205,9 @@ def main() -> int:
     signal.signal(signal.SIGINT, interrupt)
     # What a worker that is ended leaves goes with this folder.
     with tempfile.TemporaryDirectory() as tempfile.tempdir:
-        try:
-            if not os.access(asked.program, os.X_OK):
-                raise OSError(f"{asked.program} is no program")
-            return asked.does(asked)
-        except OSError as fault:
-            print(f"steadied.py: {fault}", file=sys.stderr)
-            return 1
-        except KeyboardInterrupt:
-            return 130
+        program()  # it has to be there
+        return asked.does(asked)
 
 
 if __name__ == "__main__":
-    sys.exit(main())
+    ends.run(main)

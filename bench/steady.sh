@@ -6,4 +6,4 @@
 set -eu
 . "$(dirname "$0")/built.sh"
 rm -rf "$work"
-exec python3 -B "$top/bench/steadied.py" spread "$program" "$@"
+exec python3 -B -m bench.steadied spread "$@"

@@ -7,4 +7,4 @@
 set -eu
 . "$(dirname "$0")/built.sh"
 rm -rf "$work"
-exec python3 -B "$top/bench/steadied.py" year "$program" "$@"
+exec python3 -B -m bench.steadied year "$@"

@@ -21,22 +21,9 @@ pub returns : goal.returns
 returns c = record { milliseconds = 500; least = omega arith; most = omega arith; bound = search rules }
 ANTT
 gcc -O2 -o "$work/echo" "$top/bench/plain_echo.c"
-cat > "$work/client.py" <<'PYTHON'
-"""Asks again and again, each time until it is answered or a fifth of a second has passed."""
-import socket, sys
-s = socket.socket(socket.AF_INET, socket.SOCK_DGRAM)
-s.settimeout(0.2)
-request = bytes.fromhex('230006ec' + '00' * 36 + '1122334455667788')
-while True:
-    try:
-        s.sendto(request, ('127.0.0.1', int(sys.argv[1])))
-        s.recv(1024)
-    except OSError:
-        pass
-PYTHON
 build "$work/crates/turn_loop" 0 0
-port=$(python3 -c 'import socket; s = socket.socket(socket.AF_INET, socket.SOCK_DGRAM); s.bind(("127.0.0.1", 0)); print(s.getsockname()[1])')
-python3 "$work/client.py" "$port" &
+port=$(python3 -B -c 'from lab.client import free_port; print(free_port())')
+python3 -B -m bench.ask_on "$port" &
 client=$!
 trap 'kill "$client"; rm -rf "$work"' EXIT
 

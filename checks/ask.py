@@ -1,6 +1,4 @@
-#!/usr/bin/env python3
-"""A plain client, for the checks of `serve`: it asks a server and looks at each field of the answers. It shares no code with the
-program.
+"""A plain client, for the checks of `serve`: it asks a server and looks at each field of the answers.
 
     ask.py port                             a port that is free, below those that the host gives out by itself
     ask.py ahead START                      how far the example's radios are ahead of the host's clock now, in seconds, where the
@@ -20,44 +18,21 @@ It ends with 1 and says why where something isn't as it should be.
 """
 
 import datetime
-import random
-import socket
-import struct
 import sys
 import time
 
-UNIX = 2208988800  # the seconds from 1900 to 1970
-SECOND = 2**32
+from lab.client import free_port, socket_on, to_server
+from lab.packets import LENGTH, UNIX, WHOLE, number_of, read, request, stamp
+
 # The example's first whole minute, and the counter's microseconds at which it begins.
 FIRST = datetime.datetime(2026, 1, 1, 12, 0, tzinfo=datetime.timezone.utc).timestamp()
 FIRST_AT = 2_000_000
 WAIT = 10
 
 
-def free_port():
-    """Ports from 32768 on may be taken by any socket that asks for none; so one below them."""
-    for _ in range(1000):
-        port = random.randrange(20000, 32000)
-        with socket.socket(socket.AF_INET, socket.SOCK_DGRAM) as trial:
-            try:
-                trial.bind(("0.0.0.0", port))
-                return port
-            except OSError:
-                pass
-    sys.exit("no port is free")
-
-
-def to_server(port):
-    """A socket that receives of one server alone."""
-    client = socket.socket(socket.AF_INET, socket.SOCK_DGRAM)
-    client.connect(("127.0.0.1", port))
-    client.settimeout(WAIT)
-    return client
-
-
-def request(version, poll, sent, length=48):
+def long_request(version, poll, sent, length=LENGTH):
     """A client's request; after its 48 bytes a server has nothing to look at."""
-    return bytes([version << 3 | 3, 0, poll, 0xEC]) + bytes(36) + struct.pack(">Q", sent) + bytes(length - 48)
+    return request(sent, version, poll) + bytes(length - LENGTH)
 
 
 def answer(client, question):
@@ -72,56 +47,51 @@ def answer(client, question):
 def wait_for(port):
     """One request is received at most: one that finds no socket is refused at once."""
     end = time.monotonic() + WAIT
-    with to_server(port) as client:
+    with to_server(port, WAIT) as client:
         while time.monotonic() < end:
-            if answer(client, request(4, 6, 1)) is not None:
+            if answer(client, request(1)) is not None:
                 return
             time.sleep(0.01)
     sys.exit(f"nobody listens on port {port}")
 
 
 def wait_for_time(port):
-    with to_server(port) as client:
+    with to_server(port, WAIT) as client:
         for _ in range(10):
-            reply = answer(client, request(4, 6, 1))
+            reply = answer(client, request(1))
             if reply and reply[0] >> 6 != 3:
                 return
             time.sleep(WAIT / 10)
     sys.exit(f"the server on port {port} has no time")
 
 
-def stamp_now():
-    return int((time.time() + UNIX) * SECOND) % 2**64
-
-
 def span(later, earlier):
     """The seconds from one time stamp to another, which are less than 68 years apart."""
     apart = (later - earlier) % 2**64
-    return (apart - 2**64 if apart >= 2**63 else apart) / SECOND
+    return (apart - 2**64 if apart >= 2**63 else apart) / WHOLE
 
 
 def look_at(reply, question, left, came, ahead, leap, stratum, refid):
     """Each field of an answer, against what was sent and what is known of the server."""
-    first, told_stratum, poll, precision, delay, dispersion, told_refid, known, origin, received, sent = struct.unpack(
-        ">BBBbII4sQQQQ", reply
-    )
+    told, asked = read(reply), read(question)
     has_time = leap != 3
-    shift = round(ahead * SECOND)
-    off = (span(received, left + shift) + span(sent, came + shift)) / 2
-    yield "the leap indicator", first >> 6, leap
-    yield "the version", first >> 3 & 7, question[0] >> 3 & 7
-    yield "the mode", first & 7, 4
-    yield "the stratum", told_stratum, stratum
-    yield "the poll", poll, question[2]
-    yield "the precision", precision, -20
-    yield "the root delay", delay, 0
-    yield "the reference ID", told_refid.rstrip(b"\0").decode("latin-1"), refid
-    yield "the origin", origin, left
+    shift = round(ahead * WHOLE)
+    off = (span(told.receive, left + shift) + span(told.transmit, came + shift)) / 2
+    yield "the leap indicator", told.leap, leap
+    yield "the version", told.version, asked.version
+    yield "the mode", told.mode, 4
+    yield "the stratum", told.stratum, stratum
+    yield "the poll", told.poll, asked.poll
+    yield "the precision", told.precision, -20
+    yield "the root delay", told.root_delay, 0
+    yield "the reference ID", reply[12:16].rstrip(b"\0").decode("latin-1"), refid
+    yield "the origin", told.origin, left
     # A radio's time is reported to be 5 ms off at the least, and as no time from 1 s on. None is 16 s off.
-    yield f"that the root dispersion {dispersion} is in range", (328 <= dispersion <= 65536 if has_time else dispersion == 2**20), True
-    yield "that it was received before it was sent", 0 <= span(sent, received) < 1, True
+    far, known = told.root_dispersion, told.reference
+    yield f"that the root dispersion {far} is in range", (328 <= far <= 65536 if has_time else far == 2**20), True
+    yield "that it was received before it was sent", 0 <= span(told.transmit, told.receive) < 1, True
     # The newest minute of the radios came in the quarter of an hour before.
-    yield f"that the reference time {known:016x} is in range", (0 <= span(received, known) <= 900 if has_time else known == 0), True
+    yield f"that the reference time {known:016x} is in range", (0 <= span(told.receive, known) <= 900 if has_time else known == 0), True
     yield f"that the offset, which is {off:.6f} s off, is {ahead:.6f} within a second", abs(off) < 1, True
 
 
@@ -133,12 +103,12 @@ def dump(datagram):
 def look(port, count, ahead, leap, stratum, refid, dump_name=None):
     """Asks in each version, with several polls, and with bytes after the 48."""
     dumped = []
-    with to_server(port) as client:
+    with to_server(port, WAIT) as client:
         for i in range(count):
-            left = stamp_now()
-            question = request(1 + i % 4, (6, 10, 0xFD, 127)[i // 4 % 4], left, (48, 48, 68, 1024)[i // 3 % 4])
+            left = stamp(time.time())
+            question = long_request(1 + i % 4, (6, 10, -3, 127)[i // 4 % 4], left, (48, 48, 68, 1024)[i // 3 % 4])
             reply = answer(client, question)
-            came = stamp_now()
+            came = stamp(time.time())
             if reply is None or len(reply) != 48:
                 sys.exit(f"request {i} is answered with {reply!r}")
             dumped.append(dump(reply))
@@ -152,18 +122,18 @@ def look(port, count, ahead, leap, stratum, refid, dump_name=None):
 
 def gets(port, address, *due):
     """Asks from an address; a kiss code has its letters where the reference ID stands, stratum 0, and isn't synchronised."""
-    with socket.socket(socket.AF_INET, socket.SOCK_DGRAM) as client:
-        client.bind((address, 0))
+    with socket_on(address) as client:
         client.connect(("127.0.0.1", port))
         for i, what in enumerate(due):
             client.settimeout(0.5 if what == "nothing" else WAIT)
-            question = request(4, 6, stamp_now(), 48)[: 47 if what == "nothing" else 48]
+            number = stamp(time.time())
+            question = request(number)[: 47 if what == "nothing" else LENGTH]
             try:
                 reply = answer(client, question)
             except TimeoutError:
                 told = "nothing"
             else:
-                if reply is None or len(reply) != 48 or reply[24:32] != question[40:48]:
+                if reply is None or len(reply) != 48 or number_of(reply) != number:
                     sys.exit(f"request {i} from {address} is answered with {reply!r}")
                 told = reply[12:16].decode("latin-1") if (reply[0], reply[1]) == (0xE4, 0) else "time"
             if told != what:
@@ -173,11 +143,11 @@ def gets(port, address, *due):
 def drain(port):
     """Where the server has ended, the host refuses what is sent."""
     end = time.monotonic() + 30
-    with to_server(port) as client:
+    with to_server(port, WAIT) as client:
         client.settimeout(1)
         while time.monotonic() < end:
             try:
-                if answer(client, request(4, 6, 1)) is None:
+                if answer(client, request(1)) is None:
                     return
             except TimeoutError:
                 pass

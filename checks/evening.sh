@@ -42,19 +42,18 @@ mount -t proc proc "$host/proc" || exit 1
 
 # The folder as it is unpacked, with the built program in it.
 mkdir -p "$host$home/crates/radio_ntpd/out"
-git archive HEAD -- radio_ntpd radio_keeper keeper feeders tools checks/model packaging docs crates.txt | tar -x -C "$host$home"
+git archive HEAD -- radio_ntpd radio_keeper keeper feeders tools build lab/model packaging docs crates.txt | tar -x -C "$host$home"
 install -m 755 "$program" "$host$home/crates/radio_ntpd/out/radio_ntpd"
 # What the page doesn't install: root is there already, and apt is to ask nothing.
 printf '#!/bin/sh\nexec "$@"\n' > "$host/usr/local/bin/sudo"
 echo 'APT::Get::Assume-Yes "true";' > "$host/etc/apt/apt.conf.d/90yes"
-mkdir -p "$host/opt/bench"
-cp bench/*.py "$host/opt/bench/"
+cp -r lab "$host/opt/lab"
 cat > "$host/usr/local/bin/gpiomon" <<'SH'
 #!/bin/sh
 [ "$*" = 'gpiochip0 17' ] || { echo "gpiomon: what is $*?" >&2; exit 1; }
 exec python3 -u -c '
 import subprocess, sys
-with subprocess.Popen([sys.executable, "/opt/bench/soft_receiver.py", "--plan", "dcf", "--live", "86400", "--form", "edges", "--jitter", "3"], stdout=subprocess.PIPE, text=True) as receiver:
+with subprocess.Popen([sys.executable, "-B", "-m", "lab.receiver", "--plan", "dcf", "--live", "86400", "--form", "edges", "--jitter", "3"], stdout=subprocess.PIPE, text=True, cwd="/opt") as receiver:
     for line in receiver.stdout:
         at, edge, *_ = line.split()
         print(f"event: {edge.upper():>7} EDGE offset: 17 timestamp: [{at:>16}]", flush=True)

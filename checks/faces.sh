@@ -26,7 +26,7 @@ if has chromium; then
     python3 -B -m keeper.tests.browser || wrong 'the page is not as it should be'
 fi
 if has promtool; then
-    python3 -B -c 'from keeper import metrics; from keeper.tests.test_faces import NOW, a_good_station; print(metrics.render(a_good_station(), NOW), end="")' > "$work/metrics" || wrong 'there are no metrics'
+    python3 -B -c 'from keeper.reporter import metrics; from keeper.tests.made_station import NOW, a_good_station; print(metrics.render(a_good_station(), NOW), end="")' > "$work/metrics" || wrong 'there are no metrics'
     promtool check metrics < "$work/metrics" > "$work/told" 2>&1 || wrong 'promtool refuses the metrics'
     [ ! -s "$work/told" ] || wrong "promtool says: $(head -n 5 "$work/told")"
 fi
@@ -38,7 +38,8 @@ if has mandoc; then
     done
 fi
 if has systemd-analyze; then
-    sed 's:@PREFIX@/lib/radio_ntpd/radio_keeper run --config /etc/radio_ntpd/keeper.toml:/bin/true:' packaging/radio_ntpd.service > "$work/radio_ntpd.service"
+    sed "s:@PREFIX@/lib/radio_ntpd/radio_keeper:/bin/true:" packaging/radio_ntpd.service > "$work/radio_ntpd.service"
+    cp packaging/radio_ntpd.socket "$work"
     systemd-analyze verify --man=no "$work/radio_ntpd.service" > "$work/told" 2>&1 || wrong "systemd-analyze says: $(head -n 3 "$work/told")"
     level=$(systemd-analyze security --offline=yes "$work/radio_ntpd.service" 2> "$work/none" | sed -n 's/.*Overall exposure level.*: \([0-9.]*\) .*/\1/p')
     echo "faces: systemd-analyze security: $level of 10, 0 being best"

@@ -1,5 +1,5 @@
 #!/bin/sh
-# The feeders over recorded edges, and the whole way of a radio: edges of the examples' logs, with noise on the line, go through the feeder
+# The whole way of a radio: edges of the examples' logs, with noise on the line, go through the feeder
 # and a FIFO into `serve`, whose journal has to be what `decode` says of those logs. No hardware is needed. It takes a minute.
 #
 #     checks/feeders.sh
@@ -7,11 +7,6 @@ set -u
 cd "$(dirname "$0")/.." || exit 1
 name=feeders
 . checks/serving.sh
-
-for tests in feeders/test_feeders feeders/test_feeder_ends feeders/test_serial_edges feeders/test_steady feeders/test_steady_pipe feeders/test_chrony_sock; do
-    python3 -B "$tests.py" > "$work/one" 2>&1 || wrong "$tests.py: $(tail -n 12 "$work/one")"
-    cat "$work/one" >> "$work/tests"
-done
 
 # The edges of a log, on a line that is low while the carrier is reduced, with a spike of 2 ms after each reduction.
 edges() {
@@ -48,5 +43,5 @@ for plan in dcf:dcf77 msf:msf wwvb:wwvb; do
         END { exit bad }' || wrong "steady starts change what the log of $plan says"
 done
 
-[ "$bad" = 0 ] && echo "$name: $(awk '/^Ran / { sum += $2 } END { print sum }' "$work/tests") tests, $feed radios through FIFOs"
+[ "$bad" = 0 ] && echo "$name: $feed radios through FIFOs"
 exit "$bad"

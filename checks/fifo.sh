@@ -175,7 +175,7 @@ ask drain "$port" || wrong 'a server with a bad line does not end'
 ended 5 'status 5 line 0 201'
 stands 0 dcf "$work/bad"
 wait "$writer"
-[ "$(cat "$work/told")" = broken ] || wrong 'the writer behind a bad line is not told'
+[ "$(cat "$work/told")" = broken ] || wrong 'the writer after a bad line is not told'
 checked=$((checked + 2))
 
 # Signals while it serves: those that end a program end it at once, with nothing written, its port free and its pipe broken. A broken
@@ -183,20 +183,16 @@ checked=$((checked + 2))
 radio dcf a > "$work/station"
 printf '[[link]]\nport = %s\n' "$port" >> "$work/station"
 python3 -B - "$work/station" "$work/a" "$dcf" "$port" <<'PY' || wrong 'a signal does something else'
-import signal, socket, subprocess, sys, time
+import signal, subprocess, sys, time
+from lab.client import ask, is_free
 station, pipe, log, port = sys.argv[1:]
 
 def asked():
     """Whether the link is served."""
-    with socket.socket(socket.AF_INET, socket.SOCK_DGRAM) as client:
-        client.connect(("127.0.0.1", int(port)))
-        client.settimeout(0.2)
-        for _ in range(50):
-            try:
-                client.send(b"\x23" + bytes(47))
-                return len(client.recv(100)) == 48
-            except (ConnectionRefusedError, TimeoutError):
-                time.sleep(0.05)
+    for _ in range(50):
+        if ask(int(port), 0.2):
+            return True
+        time.sleep(0.05)
 
 for number in (signal.SIGTERM, signal.SIGINT, signal.SIGHUP, signal.SIGQUIT, signal.SIGPIPE):
     # A shell that runs this with `&` leaves signals ignored, which a program would take over.
@@ -223,8 +219,8 @@ for number in (signal.SIGTERM, signal.SIGINT, signal.SIGHUP, signal.SIGQUIT, sig
                 sys.exit(f"its pipe is not broken after {number!r}")
             except BrokenPipeError:
                 pass
-            with socket.socket(socket.AF_INET, socket.SOCK_DGRAM) as other:
-                other.bind(("0.0.0.0", int(port)))
+            if not is_free(int(port)):
+                sys.exit(f"its port isn't free after {number!r}")
     if number == signal.SIGPIPE:
         text, _ = run.communicate(timeout=20)
         if run.returncode or not text.endswith(b"\nstatus 0\n"):

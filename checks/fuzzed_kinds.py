@@ -3,14 +3,14 @@
 import pathlib
 import sys
 
-import grammar
+from checks.limited_runner import Runner
+from checks.spoils import Draw, Lines
+from lab import grammar
+from lab.packets import QUERY
+from lab.program import TOP
 
-from limited_runner import Runner
-from spoils import Draw, Lines
-
-EXAMPLES = pathlib.Path(__file__).resolve().parent.parent / "examples"
-# A client's request, in hexadecimal digits.
-REQUEST = "230006ec" + "00" * 36 + "1122334455667788"
+EXAMPLES = TOP / "examples"
+REQUEST = QUERY.hex()
 # The station that scripts and journals are played against, and what each of its feeds is.
 PLANS = ["dcf", "msf", "wwvb", grammar.SERVER, grammar.LEAP]
 STATION = """bound = 1000

@@ -1,22 +1,24 @@
-"""What is handed over to a held run, and from run to run: for `checks/service.py`."""
+"""What is handed over to a held run, and from run to run: cases of service.py."""
 
 import os
 import signal
 import socket
-import struct
 import subprocess
 import sys
 import threading
 import time
 from pathlib import Path
 
-import held
-from held import Held, bound, client_ready, need, station, whole
+from lab import held
+from lab.client import socket_on
+from lab.held import Held, client_ready, need, station, whole
+from lab.packets import number_of, request
+from lab.program import TOP, program
 
 
-def faults(program: str, folder: Path) -> None:
+def faults(folder: Path) -> None:
     """A word that is not valid: nothing can be opened, and the message names the word."""
-    link = bound()
+    link = socket_on()
     port, number = link.getsockname()[1], link.fileno()
     stream = held.Signal()
     tcp = socket.socket()
@@ -35,7 +37,7 @@ def faults(program: str, folder: Path) -> None:
                          (other, other), ("pace=65536", "pace=65536"), (f"{good} {end}", end),
                          (" ", "none of"), (end, end), ("", f"port {port}")):
         env = os.environ | {"RADIO_NTPD_SERVICE": words}
-        ran = subprocess.run([program, "serve", "--station", str(path)], capture_output=True,
+        ran = subprocess.run([program(), "serve", "--station", str(path)], capture_output=True,
                              text=True, env=env, close_fds=False, timeout=10)
         told = ran.returncode == 2 and ran.stdout == "status 2 open link 0\n"
         need(told, f"{words!r}: {ran.stdout!r}")
@@ -44,9 +46,9 @@ def faults(program: str, folder: Path) -> None:
         one.close()
 
 
-def systemd(program: str, folder: Path) -> None:
+def systemd(folder: Path) -> None:
     """Sockets of systemd are taken where they are this process's, and the variable is set."""
-    link = bound()
+    link = socket_on()
     port = link.getsockname()[1]
     path = folder / "systemd.toml"
     path.write_text(station(port))
@@ -54,7 +56,7 @@ def systemd(program: str, folder: Path) -> None:
              'exec "$3" serve --station "$4" --during 1')
     for variable, off, due in ((True, 0, 0), (True, 1, 2), (False, 0, 2)):
         env = os.environ | ({"RADIO_NTPD_SERVICE": ""} if variable else {})
-        words = [str(link.fileno()), str(off), program, str(path)]
+        words = [str(link.fileno()), str(off), program(), str(path)]
         child = subprocess.Popen(["bash", "-c", shell, "", *words], pass_fds=[link.fileno()],
                                  env=env, stdout=subprocess.PIPE, stderr=subprocess.DEVNULL,
                                  text=True)
@@ -65,15 +67,15 @@ def systemd(program: str, folder: Path) -> None:
     link.close()
 
 
-def plain(program: str, folder: Path) -> None:
+def plain(folder: Path) -> None:
     """Without the variable a run opens its own port and ends by its hearings."""
-    link, one = bound(), held.client()
+    link, one = socket_on(), held.client()
     port = link.getsockname()[1]
     link.close()
     path = folder / "plain.toml"
     path.write_text(station(port))
     env = {name: value for name, value in os.environ.items() if name != "RADIO_NTPD_SERVICE"}
-    child = subprocess.Popen([program, "serve", "--station", str(path), "--during", "1"], env=env,
+    child = subprocess.Popen([program(), "serve", "--station", str(path), "--during", "1"], env=env,
                              stdout=subprocess.PIPE, stderr=subprocess.DEVNULL, text=True)
     answered = False
     for number in range(10):
@@ -95,7 +97,7 @@ class Asker(threading.Thread):
         super().__init__(daemon=True)
         self.port, self.rate, self.sent, self.over = port, rate, 0, False
         self.answered: set[int] = set()
-        self.socket = bound()
+        self.socket = socket_on()
         self.socket.settimeout(1)
         self.reader = threading.Thread(target=self.read, daemon=True)
         self.reader.start()
@@ -103,7 +105,7 @@ class Asker(threading.Thread):
     def read(self) -> None:
         while not self.over or len(self.answered) < self.sent:
             try:
-                self.answered.add(struct.unpack(">Q", self.socket.recv(1024)[24:32])[0])
+                self.answered.add(number_of(self.socket.recv(1024)))
             except TimeoutError:
                 if self.over:
                     return
@@ -112,7 +114,7 @@ class Asker(threading.Thread):
         begun = time.monotonic()
         while not self.over:
             self.sent += 1
-            self.socket.sendto(held.request(self.sent), ("127.0.0.1", self.port))
+            self.socket.sendto(request(self.sent), ("127.0.0.1", self.port))
             time.sleep(max(0.0, begun + self.sent / self.rate - time.monotonic()))
 
     def stop(self) -> int:
@@ -129,17 +131,17 @@ def dropped(port: int) -> int:
     return sum(int(row.split()[12]) for row in rows if row.split()[1].endswith(f":{port:04X}"))
 
 
-def changes(program: str, folder: Path, count: int, rate: int) -> str:
+def changes(folder: Path, count: int, rate: int) -> str:
     """Run after run on one socket: each request is answered but those that the kernel dropped."""
-    link = bound()
+    link = socket_on()
     port = link.getsockname()[1]
-    run = Held(program, folder, station(port), sockets=(link,))
+    run = Held(folder, station(port), sockets=(link,))
     run.give("go")
     client_ready(port)
     asker = Asker(port, rate)
     asker.start()
     for _ in range(count):
-        follower = Held(program, folder, station(port), sockets=(link,))
+        follower = Held(folder, station(port), sockets=(link,))
         time.sleep(0.1)
         follower.give("go")
         time.sleep(0.05)
@@ -156,14 +158,14 @@ def changes(program: str, folder: Path, count: int, rate: int) -> str:
 SUPERVISOR = """
 import socket, sys, time
 from pathlib import Path
-import held
-program, folder, number, port = sys.argv[1:]
+from lab import held
+folder, number, port = sys.argv[1:]
 link = socket.socket(fileno=int(number))
 runs = []
 for one in range(2):
     with open(f"{folder}/killed-{one}", "w") as out:
         station = held.station(int(port))
-        runs.append(held.Held(program, Path(folder), station, sockets=(link,), out=out))
+        runs.append(held.Held(Path(folder), station, sockets=(link,), out=out))
 runs[0].give("go")
 print(*[run.child.pid for run in runs], flush=True)
 time.sleep(60)
@@ -181,13 +183,13 @@ def alive(numbers: list[int]) -> list[int]:
     return [number for number in numbers if Path(f"/proc/{number}/exe").exists()]
 
 
-def killed(program: str, folder: Path) -> None:
+def killed(folder: Path) -> None:
     """A supervisor is killed: both its programs end by themselves, with their journals whole."""
-    link = bound()
+    link = socket_on()
     port = link.getsockname()[1]
-    words = [program, str(folder), str(link.fileno()), str(port)]
+    words = [str(folder), str(link.fileno()), str(port)]
     supervisor = subprocess.Popen([sys.executable, "-B", "-c", SUPERVISOR, *words],
-                                  pass_fds=[link.fileno()], cwd=Path(held.__file__).parent,
+                                  pass_fds=[link.fileno()], cwd=TOP,
                                   stdout=subprocess.PIPE, text=True)
     assert supervisor.stdout is not None
     numbers = [int(word) for word in supervisor.stdout.readline().split()]

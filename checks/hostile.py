@@ -1,8 +1,7 @@
-#!/usr/bin/env python3
 """Sends a number of malformed datagrams to a server, from several sockets, with good requests between them, and looks at all that comes
-back. It prints how many good and how many bad ones were received, and how many were sent from port 0. It shares no code with the program.
+back. It prints how many good and how many bad ones were received, and how many were sent from port 0.
 
-    hostile.py PORT COUNT
+    python3 -m checks.hostile PORT COUNT
 
 A socket holds what the server has not yet received, some 200 thousand bytes of it, and the host drops what comes on top. So a good request
 is sent after some hundred others at most, and its reply says that all before it were received. At the end good ones are sent until the
@@ -16,7 +15,10 @@ import struct
 import sys
 import time
 
-HEADER = 48
+from lab import ends
+from lab.client import HOST, socket_on, to_server
+from lab.packets import LENGTH, QUERY, read, request
+
 # What the host takes for a datagram that waits, at the most, and how much may wait.
 COST = 1200
 ROOM = 120_000
@@ -28,7 +30,7 @@ def head(version, mode):
 
 def is_good(datagram):
     """A client's request, by RFC 5905."""
-    return len(datagram) >= HEADER and 1 <= datagram[0] >> 3 & 7 <= 4 and datagram[0] & 7 == 3
+    return len(datagram) >= LENGTH and 1 <= datagram[0] >> 3 & 7 <= 4 and datagram[0] & 7 == 3
 
 
 def malformed(draw, i):
@@ -66,17 +68,16 @@ def malformed(draw, i):
 def good(draw, i, sent):
     """The good one of number i, with bytes after its header that nobody asks for."""
     length = (48, 49, 68, 1023, 1024, 1025, 1472, 9000)[i % 8]
-    return head(1 + i % 4, 3) + bytes([0, draw.randrange(256), 0xEC]) + bytes(36) + struct.pack(">Q", sent) + draw.randbytes(length - 48)
+    return request(sent, 1 + i % 4, draw.randrange(-128, 128)) + draw.randbytes(length - LENGTH)
 
 
 class Senders:
     """Sockets that send by turns, and receive from whoever sends to them."""
 
     def __init__(self, port, count):
-        self.server = ("127.0.0.1", port)
-        self.sockets = [socket.socket(socket.AF_INET, socket.SOCK_DGRAM) for _ in range(count)]
+        self.server = (HOST, port)
+        self.sockets = [socket_on() for _ in range(count)]
         for one in self.sockets:
-            one.bind(("127.0.0.1", 0))
             one.settimeout(10)
         self.turn = 0
 
@@ -92,9 +93,10 @@ class Senders:
         one = self.next()
         one.sendto(question, self.server)
         reply, sender = one.recvfrom(65536)
-        due = question[0] & 0x38 | 4
-        if sender != self.server or len(reply) != HEADER or reply[0] & 0x3F != due or reply[24:32] != question[40:48]:
-            sys.exit(f"{question[:HEADER].hex()} is answered from {sender} with {reply.hex()}")
+        due, got = read(question), read(reply)
+        is_right = got and len(reply) == LENGTH and (got.version, got.mode, got.origin) == (due.version, 4, due.transmit)
+        if sender != self.server or not is_right:
+            sys.exit(f"{question[:LENGTH].hex()} is answered from {sender} with {reply.hex()}")
 
     def hear_nothing(self):
         time.sleep(0.3)
@@ -111,7 +113,7 @@ def from_port_0(port, datagram):
     """Sends a datagram from port 0, to which there is no way back; false where that isn't allowed."""
     try:
         with socket.socket(socket.AF_INET, socket.SOCK_RAW, socket.IPPROTO_UDP) as raw:
-            raw.sendto(struct.pack(">HHHH", 0, port, 8 + len(datagram), 0) + datagram, ("127.0.0.1", 0))
+            raw.sendto(struct.pack(">HHHH", 0, port, 8 + len(datagram), 0) + datagram, (HOST, 0))
             return True
     except PermissionError:
         return False
@@ -126,13 +128,11 @@ def lost(port):
 def drain(port):
     """How many good requests are answered until nobody listens any more."""
     count = 0
-    with socket.socket(socket.AF_INET, socket.SOCK_DGRAM) as one:
-        one.connect(("127.0.0.1", port))
-        one.settimeout(1)
+    with to_server(port, 1) as one:
         end = time.monotonic() + 30
         while time.monotonic() < end:
             try:
-                one.send(head(4, 3) + bytes(47))
+                one.send(QUERY)
                 one.recv(2048)
                 count += 1
             except TimeoutError:
@@ -169,7 +169,4 @@ def main():
 
 
 if __name__ == "__main__":
-    try:
-        main()
-    except OSError as fault:
-        sys.exit(f"hostile.py: {fault}")
+    ends.run(main)

@@ -15,7 +15,7 @@ station "$port" > "$work/station.toml"
 # The first half comes beside the radios, the rest after them.
 serve --station "$work/station.toml" --during $((count / 2)) --after $((count / 2 + count / 40 + 1000))
 ask wait "$port" || wrong 'there is no server'
-counts=$(python3 -B checks/hostile.py "$port" "$count") || exit 1
+counts=$(python3 -B -m checks.hostile "$port" "$count") || exit 1
 read -r good bad_ones unheard <<COUNTS
 $counts
 COUNTS

@@ -10,4 +10,4 @@ set -u
 cd "$(dirname "$0")/.." || exit 1
 # It's built here where that hasn't been done; without arguments it only ends with a usage error.
 [ -n "${RADIO_NTPD:-}" ] || ./radio_ntpd > /dev/null
-exec python3 -B checks/keeper_cases.py "$@"
+exec python3 -B -m checks.keeper_cases "$@"

@@ -4,21 +4,21 @@ time that isn't kept is noted, and the case goes on: see kept_bounds.py, where t
 import argparse
 import os
 import signal
-import socket
 import subprocess
 import sys
 import time
 
-from kept import PLANS, WAIT, Kept, Wrong, ask, base_now, descendants, is_free, parent_of, receiver
-from kept_bounds import CHANGE, CHANGES, FLOODED, GONE, KILLED, LATE, LONGEST_START, NOTHING, PYTHONS, SLOW, WARM, bound, tried
-from kept_journals import as_decoded, as_steadied, due, whole
-from kept_machine import python_start
+from checks.kept_bounds import CHANGE, CHANGES, FLOODED, GONE, KILLED, LATE, LONGEST_START, NOTHING, PYTHONS, SLOW, WARM, bound, tried
+from checks.kept_journals import as_decoded, as_steadied, due, whole
+from lab.client import ask, is_free, to_server
+from lab.kept import PLANS, WAIT, Kept, Wrong, base_now, descendants, parent_of, radio
+from lab.kept_machine import python_start
 
 FLOOD = 2_000_000
 
 
 def command(plan: str, base: float, history: int = 15, more: str = "") -> tuple[str, str]:
-    return plan, f'command = "{receiver(plan, base, history, more)}"'
+    return plan, f'command = "{radio(plan, base, history, more)}"'
 
 
 def goes(processes: list[int], seconds: float = 10) -> bool:
@@ -41,8 +41,8 @@ def ended(kept: Kept, status: int) -> int:
 
 
 def brief(met: dict) -> dict:
-    """What a client met, without each stall of the machine."""
-    return {name: value for name, value in met.items() if name != "stalls"}
+    """What a client met, without each stall of the machine; of the times without an answer, or without the time, only how many there were."""
+    return {name: len(value) if name in ("silences", "untimes") else value for name, value in met.items() if name != "stalls"}
 
 
 def good(kept: Kept, met: dict, bounds: tuple[float, float], changes: int = 1) -> int:
@@ -63,10 +63,10 @@ def starts(base: float) -> int:
         cold.waits("run 1 (start) serves")
         time.sleep(1.5)
         said = ask(cold.port)
-        looked = due(said is not None and said[:3] == (3, 0, "INIT"), f"a cold start answers {said}")
+        looked = due(said is not None and said.what == (3, 0, "INIT"), f"a cold start answers {said}")
         looked += ended(cold, 0)
     with Kept([("msf", 'file = "msf.log"')]) as warm:
-        words = receiver("msf", base, 14)
+        words = radio("msf", base, 14)
         with open(warm.folder / "msf.log", "wb") as log, subprocess.Popen(words, stdout=log, shell=True) as writer:
             try:
                 time.sleep(2)
@@ -76,7 +76,7 @@ def starts(base: float) -> int:
                 took = time.monotonic() - began
                 looked += LATE.due(took, bound(WARM, PYTHONS * python_start(), LONGEST_START), "a warm start takes long")
                 said = ask(warm.port)
-                looked += due(said is not None and said[:3] == (0, 1, "MSF") and said[3] < 0.006, f"a warm start answers {said}")
+                looked += due(said is not None and said.what == (0, 1, "MSF") and said.dispersion < 0.006, f"a warm start answers {said}")
                 looked += ended(warm, 0)
             finally:
                 writer.kill()
@@ -106,7 +106,7 @@ def killed(base: float) -> int:
         time.sleep(1.5)
         client = kept.client(base)
         for run in (2, 3):
-            os.kill(kept.state()["run"]["pid"], signal.SIGKILL)
+            os.kill(kept.serving(), signal.SIGKILL)
             kept.waits(f"run {run} has the time")
             time.sleep(1.5)
         looked = good(kept, client.report(), KILLED, 2)
@@ -128,11 +128,10 @@ def flood(base: float) -> int:
         client = kept.client(base)
         time.sleep(0.5)
         began = time.monotonic()
-        with socket.socket(socket.AF_INET, socket.SOCK_DGRAM) as out:
-            out.connect(("127.0.0.1", kept.port))
+        with to_server(kept.port, None) as out:
             sent = 0
             # On a busy machine most of them find no room, so more may be needed.
-            while sent < FLOOD or (kept.text().count(") serves after") < 2 and time.monotonic() - began < WAIT):
+            while sent < FLOOD or (kept.text().count(") serves") < 2 and time.monotonic() - began < WAIT):
                 for _ in range(10_000):
                     try:
                         out.send(b"")
@@ -141,14 +140,14 @@ def flood(base: float) -> int:
                 sent += 10_000
         took = time.monotonic() - began
         time.sleep(3)
-        runs = kept.text().count(") serves after")
+        runs = kept.text().count(") serves")
         met = client.report()
         print(f"  flood of {sent} in {took:.1f} s, {runs} runs: {brief(met)}", flush=True)
         looked = due(met["wrong"] == 0, f"a client got a wrong time: {brief(met)}")
         looked += LATE.due(met["silent"], bound(FLOODED, met["stalled"], 2 * FLOODED), f"a flood silences clients: {brief(met)}")
         looked += due(runs >= 2, "a flood uses up no run")
         said = ask(kept.port)
-        looked += due(said is not None and said[0] == 0, f"after a flood clients get {said}")
+        looked += due(said is not None and said.has_time, f"after a flood clients get {said}")
         return looked + ended(kept, 0)
 
 
@@ -166,7 +165,7 @@ def sources(base: float) -> int:
     """What a source does to the run and to the other radio: nothing. Its marks are steadied all the while."""
     with Kept([command("dcf", base), ("msf", 'command = "exec sh source"\nstall = 2\nsteady = true')]) as kept:
         source = kept.folder / "source"
-        source.write_text(BROKEN.format(folder=kept.folder, receiver=receiver("msf", base, 15, "--jitter 8").removeprefix("exec ")))
+        source.write_text(BROKEN.format(folder=kept.folder, receiver=radio("msf", base, 15, "--jitter 8").removeprefix("exec ")))
         text = (kept.folder / "keeper.toml").read_text()
         (kept.folder / "keeper.toml").write_text(text.replace("sh source", f"sh {source}"))
         kept.start()
@@ -182,9 +181,9 @@ def sources(base: float) -> int:
         looked += ended(kept, 0)
         journal = kept.journals()[-1].read_text()
         looked += due(journal.endswith("status 0\n"), f"what a source did to the run: {journal[-80:]!r}")
-        radio = kept.state()["radios"][1]
-        looked += due(radio["bad_lines"] > 50 and radio["restarts"] >= 3 and radio["source"] == "running", f"its state says {radio}")
-        looked += due(0 < 4 * radio["spread_given"] < radio["spread"], f"its marks aren't steadied: {radio}")
+        seen = kept.state()["radios"][1]
+        looked += due(seen["bad_lines"] > 50 and seen["restarts"] >= 3 and seen["source"] == "running", f"its state says {seen}")
+        looked += due(0 < 4 * seen["spread_given"] < seen["spread"], f"its marks aren't steadied: {seen}")
         return looked + as_steadied(kept, 1, "msf")
 
 

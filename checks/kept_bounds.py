@@ -10,8 +10,8 @@ A case that fails for such a bound alone is run again, three times in all. What 
 
 from collections.abc import Callable
 
-from kept import TooLate, Wrong
-from kept_machine import slowness
+from lab.kept import TooLate, Wrong
+from lab.kept_machine import slowness
 
 # Without an answer and without the time, in seconds. A planned change of run, as the guide for operators promises it:
 CHANGE = (0.050, 0.100)

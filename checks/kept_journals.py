@@ -3,7 +3,8 @@
 import pathlib
 import subprocess
 
-from kept import PLANS, TOP, Kept, Wrong, program
+from lab.kept import PLANS, Kept, Wrong
+from lab.program import TOP, program
 
 
 def due(holds: bool, what: str) -> int:
@@ -48,16 +49,14 @@ def log_of(kept: Kept, feed: int, plan: str) -> pathlib.Path:
 
 def minutes(kept: Kept, feed: int, plan: str, log: pathlib.Path) -> int:
     """The minutes of a feed in the last journal, against `decode` of a log."""
-    lag = [round(float(line.split(" us late")[0].split()[-1])) for line in kept.text().splitlines() if " us late" in line][-1]
     journal = kept.journals()[-1].read_text().splitlines()
     done = subprocess.run([program(), "decode", "--plan", plan, "--log", log], stdout=subprocess.PIPE, timeout=20)
     decoded = [line.split()[1:] for line in done.stdout.decode().splitlines() if line.startswith("0 ")]
     told = [line.split()[4:] for line in journal if line.startswith("j2 ") and line.split()[3] == str(feed)]
     looked = due(len(told) >= 10, f"the last journal has {len(told)} minutes of {plan}")
-    moved = [[str(int(at) - lag), *words] for at, *words in decoded]
     # While a run is ended the log goes on: it may have minutes that closed after the run's last.
-    later = sum(int(row[0]) > int(told[-1][0]) for row in moved)
+    later = sum(int(row[0]) > int(told[-1][0]) for row in decoded)
     looked += due(later <= 2, f"the last journal lacks {later} minutes of {plan}")
     # The first minute of a run is alone; the ones before it are those that the run wasn't given.
-    same = moved[len(moved) - later - len(told) + 1 : len(moved) - later]
+    same = decoded[len(decoded) - later - len(told) + 1 : len(decoded) - later]
     return looked + due(same == told[1:], f"the minutes of {plan} aren't those that decode writes: {same[:2]} .. {told[1:3]}")

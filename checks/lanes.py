@@ -23,8 +23,9 @@ TOP = Path(__file__).resolve().parent.parent
 # Each lane has its checks one after the other. The first takes as long as the others together do side by side.
 LANES = (
     ("checks/keeper.sh",),
-    ("checks/feeders.sh", "checks/tools.sh", "checks/torture.sh 300 15"),
-    ("checks/keeper_tests.sh", "checks/model.sh", "checks/service.sh", "checks/python.sh"),
+    ("checks/feeders.sh", "checks/tests.sh bench build checks dev feeders lab tools", "checks/torture.sh 300 15"),
+    ("checks/simulation.sh",),
+    ("checks/tests.sh keeper", "checks/model.sh", "checks/service.sh", "checks/python.sh"),
     ("checks/examples.sh", "checks/messages.sh", "checks/serve.sh", "checks/clients.sh", "checks/hostile.sh", "checks/fifo.sh"),
 )
 ENDS = 10.0  # for a check that was told to end, in seconds

@@ -7,9 +7,9 @@ import shlex
 import signal
 import subprocess
 
-import grammar
+from lab import grammar
+from lab.program import program
 
-PROGRAM = pathlib.Path(__file__).resolve().parent.parent / "crates/radio_ntpd/out/radio_ntpd"
 # What a run may hold, in bytes of data, and how long it may take, in seconds.
 MEMORY = 1 << 20
 LONGEST = 30
@@ -31,7 +31,7 @@ class Runner:
 
     def __call__(self, words: list[str]) -> tuple[bytes, int]:
         """Returns what the program writes, and its status; Wrong where it hangs, or a signal ends it."""
-        line = " ".join(map(shlex.quote, (str(PROGRAM), *words)))
+        line = " ".join(map(shlex.quote, (program(), *words)))
         self.commands.write(f"{line} > {self.out} < /dev/null; echo $?\n".encode())
         if not select.select([self.answers], [], [], LONGEST)[0]:
             self.end()

@@ -46,7 +46,7 @@ station() {
 }
 
 # The page and the source have the same sentences.
-python3 -B checks/texts.py || bad=1
+python3 -B -m checks.pages.texts || bad=1
 
 # Nothing is said where nothing is wrong.
 says 0 'status 0' '' decode --plan dcf --log examples/dcf77-hour.log
@@ -150,10 +150,10 @@ told=$?
 messages=$((messages + 1))
 printf '[[radio]]\nplan = "dcf"\nlog = "nosuch"\n' | "$program" serve --station /dev/stdin > "$work/out" 2> "$work/said"
 [ "$?:$(cat "$work/said")" = '2:radio_ntpd: cannot open feed 0: there is no such file' ] || wrong "a station by a pipe says '$(cat "$work/said")'"
-port=$(python3 -B -c 'import socket; s = socket.socket(socket.AF_INET, socket.SOCK_DGRAM); s.bind(("127.0.0.1", 0)); print(s.getsockname()[1])')
+port=$(python3 -B -m checks.ask port)
 printf '[[link]]\nport = %s\n[[link]]\nport = %s\n' "$port" "$port" > "$work/station"
 says 2 'status 2 open link 1' "radio_ntpd: cannot open link 1 (port $port): another program or link has the port" serve --station "$work/station"
-other=$(python3 -B checks/ask.py port)
+other=$(python3 -B -m checks.ask port)
 printf '[[link]]\nport = %s\n' "$port" "$other" "$other" > "$work/station"
 says 2 'status 2 open link 2' "radio_ntpd: cannot open link 2 (port $other): another program or link has the port" serve --station "$work/station"
 # Root may read every file, so it becomes nobody for this.

@@ -1,8 +1,7 @@
-#!/usr/bin/env python3
 """A radio beside servers on a counter that runs free, for a day, by `replay`: asked at the start alone, as `serve` does by itself, and one
-exchange in 16 s, as the keeper's relays let it. Says how far the time was off at most, and how far off it was reported to be.
+exchange in 16 s, as a run under the keeper has it. Says how far the time was off at most, and how far off it was reported to be.
 
-    checks/pacing.py [--hours H] [--pace S]
+    python3 -m checks.pacing [--hours H] [--pace S]
 
 It fails where a paced row has a moment at which the error is above the reported root dispersion, or has no time once it had one.
 RADIO_NTPD names another program.
@@ -10,29 +9,25 @@ RADIO_NTPD names another program.
 
 import argparse
 import datetime
-import os
 import pathlib
 import random
-import struct
 import subprocess
 import sys
 import tempfile
 
-TOP = pathlib.Path(__file__).resolve().parent.parent
-sys.dont_write_bytecode = True
-sys.path.insert(0, str(TOP / "bench"))
-from make_script import dcf_minute  # noqa: E402
+from lab import ends
+from lab.minutes import minute_of
+from lab.packets import QUERY, UNIX, WHOLE, Header, read
+from lab.program import program
 
-EPOCH = 2208988800
-WHOLE = 2**32
 BEGIN = datetime.datetime(2026, 1, 1, 12, 0)
-FIRST = int(BEGIN.replace(tzinfo=datetime.timezone.utc).timestamp()) + EPOCH
+FIRST = int(BEGIN.replace(tzinfo=datetime.timezone.utc).timestamp()) + UNIX
 ASKED_FROM = 270.0  # when the servers are asked first, in true seconds
 BURST = 8  # exchanges at the start without pacing, as a station's default has it
-FIRST_PACED = 4  # exchanges that a relay lets through at the start
+FIRST_PACED = 4  # exchanges at the start
 JITTER = 2000  # how late a mark of the radio comes at most, in microseconds
+DCF = int.from_bytes(b"DCF\0", "big")  # the reference ID of the servers
 WAY = 0.0002  # one way to a server, in seconds
-REQUEST = "230006ec" + "00" * 36 + "1122334455667788"
 EVERY = 60  # a client asks so often, in seconds
 # Parts per million that the counter is fast, and how many servers stand beside the radio.
 ROWS = ((0, 2), (20, 2), (50, 2), (50, 1))
@@ -56,7 +51,7 @@ def stamp(true: float) -> int:
 def radio(counter: Counter, hours: float, draw: random.Random):
     yield counter.at(-2), f"pulse 0 {counter.at(-2)} 100000"
     for minute in range(int(hours * 60)):
-        for moment, width in dcf_minute(BEGIN + datetime.timedelta(minutes=minute)):
+        for moment, width in minute_of("dcf", BEGIN + datetime.timedelta(minutes=minute)):
             at = counter.at(minute * 60 + (moment + draw.randint(0, JITTER)) / 1e6)
             yield at, f"pulse 0 {at} {width}"
 
@@ -64,7 +59,7 @@ def radio(counter: Counter, hours: float, draw: random.Random):
 def exchange(counter: Counter, feed: int, true: float):
     asked, answered = counter.at(true), counter.at(true + 2 * WAY)
     origin = (1 << 63) + asked * WHOLE // 10**6
-    header = struct.pack(">BBBbII4sQQQQ", 0x24, 1, 6, -20, 0, 328, b"DCF\0", stamp(true - 30), origin, stamp(true + WAY), stamp(true + WAY + 1e-5))
+    header = Header(0, 4, 4, 1, 6, -20, 0, 328, DCF, stamp(true - 30), origin, stamp(true + WAY), stamp(true + WAY + 1e-5)).bytes()
     return [(asked, f"ask {feed} {asked}"), (answered, f"answer {feed} {answered} {header.hex()}")]
 
 
@@ -81,19 +76,18 @@ def script(ppm: float, servers: int, hours: float, pace: float | None) -> tuple[
     asked = [float(true) for true in range(300, int(hours * 3600), EVERY)]
     for true in asked:
         at = counter.at(true + 0.5)
-        events.append((at, f"request 0 {at} {at} {REQUEST}"))
+        events.append((at, f"request 0 {at} {at} {QUERY.hex()}"))
     return "".join(line + "\n" for _, line in sorted(events, key=lambda event: event[0])), [true + 0.5 for true in asked]
 
 
 def play(text: str, servers: int) -> list[bytes]:
     """The replies of `replay`."""
-    program = os.environ.get("RADIO_NTPD") or str(TOP / "crates/radio_ntpd/out/radio_ntpd")
     with tempfile.TemporaryDirectory() as name:
         folder = pathlib.Path(name)
         rows = "".join(f'[[server]]\naddress = "10.0.0.{place + 2}"\nport = 123\n' for place in range(servers))
         (folder / "station").write_text(f'[[radio]]\nplan = "dcf"\nlog = "x"\n{rows}')
         (folder / "script").write_text(text)
-        done = subprocess.run([program, "replay", "--station", folder / "station", "--script", folder / "script"], stdout=subprocess.PIPE, timeout=600)
+        done = subprocess.run([program(), "replay", "--station", folder / "station", "--script", folder / "script"], stdout=subprocess.PIPE, timeout=600)
     lines = done.stdout.decode().splitlines()
     if lines[-1:] != ["status 0"]:
         sys.exit(f"pacing: replay ends with {lines[-1:]}")
@@ -108,12 +102,13 @@ class Row:
         self.lost = 0
         self.timed = timed = False
         for reply, true in zip(replies, moments, strict=True):
-            if reply[0] >> 6 == 3:
+            header = read(reply)
+            if header is None or header.leap == 3:
                 self.lost += timed
                 continue
             self.timed = timed = True
-            dispersion = struct.unpack(">I", reply[8:12])[0] / 65536
-            error = abs(struct.unpack(">Q", reply[40:48])[0] - stamp(true)) / WHOLE
+            dispersion = header.root_dispersion / 65536
+            error = abs(header.transmit - stamp(true)) / WHOLE
             if error > self.worst:
                 self.worst, self.told = error, dispersion
             self.over = max(self.over, error - dispersion)
@@ -140,4 +135,4 @@ def main() -> None:
 
 
 if __name__ == "__main__":
-    main()
+    ends.run(main)

@@ -1,6 +1,6 @@
 #!/bin/sh
-# What mypy and pyflakes find in all Python of this repository, each where it is installed. Types
-# are read as checks/mypy.ini says. It takes half a minute.
+# What mypy and pyflakes find in all Python of this repository, each where it is installed. Types are read as checks/mypy.ini says. It takes
+# half a minute.
 #
 #     checks/python.sh
 set -u
@@ -10,32 +10,28 @@ trap 'rm -rf "$work"' EXIT
 trap 'exit 1' INT TERM
 bad=0
 files=$(find . -name '*.py' ! -path './.git/*' ! -path '*/out/*' | LC_ALL=C sort)
+# Scripts that import one another by their bare names: each of these folders, and the simulation, is read by itself.
+scripts='^\./\(build\|feeders\|tools\)/'
+simulation='^\./checks/\(simulat\|test_simulat\|wrong_supervisors\)'
 
-# Reads the types of some files, which import one another by their bare names. Modules of two
-# folders may have one name, so each folder is read by itself.
+# Reads the types of the files that match, whose imports begin at the folder $1.
 types() {
-    set -- --config-file checks/mypy.ini --cache-dir "$work/cache" --no-error-summary "$@"
-    mypy "$@" >> "$work/mypy" 2>&1 || bad=1
+    set -- "$1" $(cat)
+    [ $# -gt 1 ] || return
+    first=$1
+    shift
+    MYPYPATH=$first mypy --config-file checks/mypy.ini --cache-dir "$work/cache" "$@" >> "$work/mypy" 2>&1 || bad=1
 }
 
 if command -v mypy > /dev/null; then
-    # checks/model.py runs what the package checks/model has: two modules of one name.
-    for folder in $(echo "$files" | sed -n 's:^\(\./[^/]*\)/.*:\1:p' | sort -u); do
-        if [ -e "$folder/__init__.py" ]; then
-            types "$folder"
-            continue
-        fi
-        flat=$(echo "$files" | grep "^$folder/[^/]*$")
-        packages=$(find "$folder" -mindepth 2 -maxdepth 2 -name __init__.py -exec dirname {} +)
-        for package in $packages; do
-            if echo "$flat" | grep -qx "$package.py"; then
-                types "$package.py"
-                flat=$(echo "$flat" | grep -vx "$package.py")
-            fi
-        done
-        [ -z "$flat" ] || types $flat
-        [ -z "$packages" ] || types $packages
+    echo "$files" | grep -v "$scripts" | grep -v "$simulation" > "$work/packages"
+    types . < "$work/packages"
+    for folder in build feeders tools; do
+        echo "$files" | grep "^\./$folder/" > "$work/scripts"
+        types "$folder" < "$work/scripts"
     done
+    echo "$files" | grep "$simulation" > "$work/scripts"
+    types checks < "$work/scripts"
     grep -v ': note: ' "$work/mypy" >&2
     read_by=" mypy"
 else

@@ -80,8 +80,11 @@ done
 grep '^j2 ' "$work/served" > "$work/journal"
 ./radio_ntpd migrate --station "$work/station" --journal "$work/journal" > "$work/moved"
 grep -v '^link ' "$work/served" | cmp -s - "$work/moved" || wrong "migrate says something else of the journal"
-sed 's/^j2 [0-9]* -\{0,1\}[0-9]* //' "$work/journal" | python3 -B bench/page_model.py 1000 dcf msf wwvb > "$work/model"
-wrote "$(cat "$work/model")"
+python3 -B -c '
+import pathlib, sys
+from lab.model.commands import migrate
+station, journal = (pathlib.Path(name).read_bytes() for name in sys.argv[1:])
+print(migrate(station, journal).text, end="")' "$work/station" "$work/journal" | cmp -s - "$work/moved" || wrong "the model says something else of the journal"
 checked=$((checked + 2))
 
 # Four radios of one plan, the most that a station may have.

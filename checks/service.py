@@ -1,8 +1,7 @@
-#!/usr/bin/env python3
 """What a supervisor can hold of a run: its sockets, beginning, end, counter and pace, each seen on
 the built program.
 
-    checks/service.py [--changes N] [--rate N] [--only WORD] PROGRAM
+    python3 -m checks.service [--changes N] [--rate N] [--only WORD]
 
 N changes from one run to the next, at N requests a second (default 5 and 500). Each wait has
 a bound; the whole takes about half a minute. Exit status: 0 all as it should be, 1 something isn't,
@@ -10,9 +9,7 @@ a bound; the whole takes about half a minute. Exit status: 0 all as it should be
 """
 
 import argparse
-import os
 import socket
-import struct
 import subprocess
 import sys
 import tempfile
@@ -21,10 +18,14 @@ import time
 from collections.abc import Callable
 from pathlib import Path
 
-import held
-from handovers import changes, faults, killed, plain, systemd
-from held import (Held, Server, Wrong, asked, bound, client, client_ready, need, reply, station,
-                  whole, with_time)
+from checks.handovers import changes, faults, killed, plain, systemd
+from lab import held
+from lab.client import socket_on
+from lab.ends import run as run_program
+from lab.held import (Held, Server, Wrong, asked, client, client_ready, need, reply, station,
+                      whole, with_time)
+from lab.packets import WHOLE, number_of, read, request
+from lab.program import program
 
 LATEST = 0.25  # seconds from the signal of the end to the end of the process
 ENDS = 3  # tries, since a busy host may wake a process late
@@ -39,43 +40,43 @@ def is_silent(one: socket.socket) -> bool:
     return False
 
 
-def begins(program: str, folder: Path) -> None:
+def begins(folder: Path) -> None:
     """What lay in the second of two sockets is answered once the run may begin, and not before; nor
     is a server asked before.
     """
-    link, one = bound(), client()
+    link, one = socket_on(), client()
     port = link.getsockname()[1]
-    one.sendto(held.request(7), ("127.0.0.1", port))
+    one.sendto(request(7), ("127.0.0.1", port))
     server = Server(lambda count, bytes_: [(0.0, reply(bytes_))])
-    run = Held(program, folder, station(port, server.port), "pace=60", sockets=(bound(), link))
+    run = Held(folder, station(port, server.port), "pace=60", sockets=(socket_on(), link))
     need(is_silent(one), "a request is answered before the beginning")
     need(not server.times, "a server is asked before the beginning")
     run.give("go")
-    need(one.recv(1024)[24:32] == struct.pack(">Q", 7), "what lay in the socket is not answered")
+    need(number_of(one.recv(1024)) == 7, "what lay in the socket is not answered")
     whole(*run.end()[1:])
 
 
-def waits_untouched(program: str, folder: Path) -> None:
+def waits_untouched(folder: Path) -> None:
     """Nothing is taken out of the socket before the beginning: another reader gets it whole."""
-    link, one = bound(), client()
+    link, one = socket_on(), client()
     port = link.getsockname()[1]
-    run = Held(program, folder, station(port), sockets=(link,))
+    run = Held(folder, station(port), sockets=(link,))
     for number in range(20):
-        one.sendto(held.request(number), ("127.0.0.1", port))
+        one.sendto(request(number), ("127.0.0.1", port))
     time.sleep(0.4)
     took, status, lines = run.end()
     link.settimeout(1)
-    got = [link.recv(1024)[40:48] for _ in range(20)]
-    need(got == [struct.pack(">Q", n) for n in range(20)], "requests are gone before the beginning")
+    got = [link.recv(1024) for _ in range(20)]
+    need(got == [request(number) for number in range(20)], "requests are gone before the beginning")
     whole(status, lines)
     need(took < 2 * LATEST, f"a run that has not begun ends after {took:.3f} s")
 
 
-def hears_silence(program: str, folder: Path) -> None:
+def hears_silence(folder: Path) -> None:
     """A silent hearing takes two seconds, also where the socket was told not to wait."""
-    link = bound()
+    link = socket_on()
     link.setblocking(False)
-    run = Held(program, folder, station(link.getsockname()[1]), sockets=(link,), signals="end",
+    run = Held(folder, station(link.getsockname()[1]), sockets=(link,), signals="end",
                during=1)
     begun = time.monotonic()
     time.sleep(0.5)
@@ -85,17 +86,17 @@ def hears_silence(program: str, folder: Path) -> None:
     need(status == 0 and took >= 1.7, f"one hearing takes {took:.1f} s")
 
 
-def took_to_end(program: str, folder: Path, words: str, flood: bool, server: int | None) -> float:
+def took_to_end(folder: Path, words: str, flood: bool, server: int | None) -> float:
     """For how many seconds a run ends: silent or under datagrams, or while a request waits."""
-    link = bound()
+    link = socket_on()
     port = link.getsockname()[1]
-    run = Held(program, folder, station(port, server), words, (link,), "end")
+    run = Held(folder, station(port, server), words, (link,), "end")
     over = threading.Event()
-    one = bound()
+    one = socket_on()
 
     def send() -> None:
         while not over.is_set():
-            one.sendto(held.request(1), ("127.0.0.1", port))
+            one.sendto(request(1), ("127.0.0.1", port))
 
     asked(client_ready(port), port)
     sender = threading.Thread(target=send, daemon=True)
@@ -108,34 +109,35 @@ def took_to_end(program: str, folder: Path, words: str, flood: bool, server: int
     return took
 
 
-def ends(program: str, folder: Path) -> None:
+def ends(folder: Path) -> None:
     """The end comes in time: without datagrams, under datagrams, while a request waits."""
     server = Server(lambda count, bytes_: [(0.0, reply(bytes_))])
     cases = (("", False, None), ("", True, None), ("pace=60", False, server.port))
     for words, flood, port in cases:
-        least = min(took_to_end(program, folder, words, flood, port) for _ in range(ENDS))
+        least = min(took_to_end(folder, words, flood, port) for _ in range(ENDS))
         need(least <= LATEST, f"{words or 'a run'}, flood {flood}, ends after {least:.3f} s")
     server.close()
 
 
-def counter(program: str, folder: Path) -> None:
+def counter(folder: Path) -> None:
     """The served time is that of the log by CLOCK_MONOTONIC, in each of two runs."""
     for _ in range(2):
-        link = bound()
+        link = socket_on()
         port = link.getsockname()[1]
-        run = Held(program, folder, station(port), sockets=(link,), signals="end")
+        run = Held(folder, station(port), sockets=(link,), signals="end")
         before, after, answer = with_time(port)
-        for place in (32, 40):
-            at = held.stamp(answer, place) - held.MINUTE + held.MINUTE_AT
+        header = read(answer)
+        for stamp in (header.receive, header.transmit) if header else ():
+            at = stamp / WHOLE - held.MINUTE + held.MINUTE_AT
             need(before - 0.05 <= at <= after + 0.05, f"{at - before:.3f} s from the counter")
         whole(*run.end()[1:])
 
 
-def pace(program: str, folder: Path) -> None:
+def pace(folder: Path) -> None:
     """Four requests at once, then by the pace, whatever the answers: early, late or none."""
     late = {2: 0.5, 5: 0.7}
     server = Server(lambda count, bytes_: [(late.get(count, 0.0), reply(bytes_))])
-    run = Held(program, folder, station(None, server.port), "pace=1", signals="ask end")
+    run = Held(folder, station(None, server.port), "pace=1", signals="ask end")
     time.sleep(0.5)
     need(not server.times, "a server is asked before it may be")
     run.give("ask")
@@ -147,11 +149,11 @@ def pace(program: str, folder: Path) -> None:
     server.close()
 
 
-def kisses(program: str, folder: Path) -> None:
+def kisses(folder: Path) -> None:
     """`RATE` with the request's own timestamp doubles the pace, no other does; `DENY` ends it."""
     def kiss(count: int, bytes_: bytes) -> list[tuple[float, bytes]]:
         if count == 2:
-            return [(0.0, reply(bytes_, 0, b"RATE", bytes(8))), (0.0, reply(bytes_))]
+            return [(0.0, reply(bytes_, 0, b"RATE", 0)), (0.0, reply(bytes_))]
         if count == 3:
             return [(0.0, reply(bytes_, 0, b"RATE")), (0.0, reply(bytes_))]
         if count == 5:
@@ -159,7 +161,7 @@ def kisses(program: str, folder: Path) -> None:
         return [(0.0, reply(bytes_))]
 
     server = Server(kiss)
-    run = Held(program, folder, station(None, server.port), "pace=1", signals="end")
+    run = Held(folder, station(None, server.port), "pace=1", signals="end")
     time.sleep(6)
     need(run.end()[1] == 0, "a run whose server wants no more does not end well")
     gaps = server.gaps()
@@ -172,15 +174,11 @@ def kisses(program: str, folder: Path) -> None:
 
 def main() -> int:
     parser = argparse.ArgumentParser(description=__doc__.splitlines()[0])
-    parser.add_argument("program")
     parser.add_argument("--changes", type=int, default=5)
     parser.add_argument("--rate", type=int, default=500)
     parser.add_argument("--only", default="")
     words = parser.parse_args()
-    program = str(Path(words.program).resolve())
-    if not os.access(program, os.X_OK):
-        print(f"service: {words.program} is no program", file=sys.stderr)
-        return 1
+    program()  # it has to be there
     cases: tuple[Callable[..., str | None], ...] = (
         begins, waits_untouched, hears_silence, ends, counter, pace, kisses, faults, systemd,
         plain, killed, changes)
@@ -192,7 +190,7 @@ def main() -> int:
             begun = time.monotonic()
             more = (words.changes, words.rate) if case is changes else ()
             try:
-                said = case(program, Path(name), *more)
+                said = case(Path(name), *more)
                 took = time.monotonic() - begun
                 print(f"{case.__name__}: {said or 'as it should be'}, {took:.1f} s")
             except (Wrong, OSError, subprocess.TimeoutExpired) as problem:
@@ -202,7 +200,4 @@ def main() -> int:
 
 
 if __name__ == "__main__":
-    try:
-        sys.exit(main())
-    except KeyboardInterrupt:
-        sys.exit(130)
+    run_program(main)

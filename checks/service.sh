@@ -6,6 +6,5 @@
 set -u
 cd "$(dirname "$0")/.." || exit 1
 # It's built here where that hasn't been done; without arguments it only ends with a usage error.
-program=${RADIO_NTPD:-crates/radio_ntpd/out/radio_ntpd}
-[ "$program" != crates/radio_ntpd/out/radio_ntpd ] || ./radio_ntpd > /dev/null 2>&1
-exec python3 -B checks/service.py "$@" "$program"
+[ -n "${RADIO_NTPD:-}" ] || ./radio_ntpd > /dev/null 2>&1
+exec python3 -B -m checks.service "$@"

@@ -28,7 +28,7 @@ wrong() {
 
 # Our own client, by its command.
 ask() {
-    python3 -B checks/ask.py "$@"
+    python3 -B -m checks.ask "$@"
 }
 
 # The example's station with a port of its own, $1; the radios whose plans follow, or all three, receive.

@@ -5,15 +5,15 @@ import json
 import os
 import pathlib
 import signal
-import socket
-import struct
 import subprocess
 import sys
 import time
 
-from kept import EPOCH, PLANS, Kept, Wrong, base_now, descendants, receiver
-from kept_bounds import SLOW
-from soak_report import RECEIVER, RELAYS, SERVER, Event, judge, lines, verdict
+from checks.kept_bounds import SLOW
+from checks.soak_report import RECEIVER, REPORTER, SERVER, Event, judge, lines, verdict
+from lab.client import socket_on
+from lab.kept import PLANS, Kept, Wrong, base_now, descendants, radio
+from lab.packets import reply, stamp
 
 FADE = 0.08  # the chance that a minute loses its carrier
 JITTER = 2  # of each mark, in milliseconds either way
@@ -21,13 +21,11 @@ RATE = 100  # requests a second
 STEADY = "wwvb"  # this radio is steadied
 LOOK = 600.0  # how often a line is printed, in seconds
 SETTLED = 10.0  # nothing is killed before a run is so old, in seconds
-WHOLE = 2**32
 
 
 def serve_time(base: float, port: int) -> None:
     """A server of stratum 1 on the receiver's clock; its port is its first line. It ends with its parent."""
-    with socket.socket(socket.AF_INET, socket.SOCK_DGRAM) as link:
-        link.bind(("127.0.0.1", port))
+    with socket_on(port=port) as link:
         print(link.getsockname()[1], flush=True)
         link.settimeout(5)
         parent = os.getppid()
@@ -36,14 +34,12 @@ def serve_time(base: float, port: int) -> None:
                 datagram, who = link.recvfrom(100)
             except TimeoutError:
                 continue
-            now = round((time.monotonic() + base + EPOCH) * WHOLE)
-            head = struct.pack(">BBBbII4sQ", 0x24, 1, 6, -20, 0, 64, b"GPS\0", (now - 7 * WHOLE) % 2**64)
-            link.sendto(head + datagram[40:48] + struct.pack(">QQ", now % 2**64, round((time.monotonic() + base + EPOCH) * WHOLE) % 2**64), who)
+            link.sendto(reply(datagram, stamp(time.monotonic() + base), stamp(time.monotonic() + base), b"GPS"), who)
 
 
 def server(base: float, port: int = 0) -> tuple[subprocess.Popen, int]:
     """Such a server and its port, which is a free one where none is given."""
-    words = [sys.executable, "-B", __file__, "--serve", repr(base), str(port)]
+    words = [sys.executable, "-B", "-m", "checks.soak", "--serve", repr(base), str(port)]
     process = subprocess.Popen(words, stdout=subprocess.PIPE)
     assert process.stdout
     return process, int(process.stdout.readline())
@@ -63,12 +59,12 @@ def victims(kept: Kept, what: str) -> list[int]:
 
 
 def kill_in_turn(kept: Kept, turn: int) -> Event:
-    """Kills the server, a receiver, or the relays. Raises Wrong where there is none."""
-    kind = (SERVER, RECEIVER, RELAYS)[turn % 3]
+    """Kills the server, a receiver, or the reporter. Raises Wrong where there is none."""
+    kind = (SERVER, RECEIVER, REPORTER)[turn % 3]
     if kind is SERVER:
-        chosen = [kept.state()["run"]["pid"]]
+        chosen = [kept.serving()]
     else:
-        chosen = victims(kept, "receiver.py" if kind is RECEIVER else "keeper.relay")[:1]
+        chosen = victims(kept, "lab.receiver" if kind is RECEIVER else "keeper.reporter")[:1]
     event = Event(kind, time.monotonic())
     try:
         os.kill(chosen[0], signal.SIGKILL)
@@ -82,7 +78,7 @@ def line(kept: Kept, met: dict, hours: float, kills: list[Event]) -> str:
     state = kept.state()
     radios = ", ".join(f"{one['plan']} {one['verdicts_hour']}/{one['minutes_hour']}" for one in state["radios"])
     spreads = " and ".join(f"{one[name] * 1e3:.2f}" for one in state["radios"] if one["steady"] for name in ("spread", "spread_given"))
-    servers = sum(1 for one in state["servers"] if time.time() - one["answered_at"] < 60)
+    servers = sum(1 for one in state["servers"] if time.time() - one["sample_at"] < 600)
     return (f"{hours:.2f} h: run {state['run']['number']}, {met['asked']} asked, {met['asked'] - met['answered']} without an answer, {met['answered'] - met['timed']} answered without the time, "
             f"longest {met['silent'] * 1000:.0f} and {met['untimed'] * 1000:.0f} ms, error {met['error'] * 1e3:.2f} ms, {met['wrong']} wrong; verdicts of the last hour {radios}; "
             f"{STEADY} spread {spreads} ms; {servers} servers answer; {len(kills)} kills; memory of the keeper {memory(kept.process.pid)} KB; "
@@ -146,7 +142,7 @@ def soak(hours: float, cycle: int, killed: int, base: float) -> int:
     station = "".join(f'[[server]]\naddress = "127.0.0.1"\nport = {port}\n' for _, port in servers)
     radios = []
     for place, plan in enumerate(PLANS):
-        words = receiver(plan, base, 15, f"--fades {FADE} --jitter {JITTER} --seed {place}")
+        words = radio(plan, base, 15, f"--fades {FADE} --jitter {JITTER} --seed {place}")
         radios.append((plan, f'command = "{words}"\nsteady = {"true" if plan == STEADY else "false"}'))
     kills: list[Event] = []
     try:

@@ -1,7 +1,7 @@
 #!/bin/sh
-# Keeps a station for HOURS (2): three radios in software whose carriers fade, one of them steadied, two servers asked through relays, a client
+# Keeps a station for HOURS (2): three radios in software whose carriers fade, one of them steadied, two servers, a client
 # that asks a hundred times a second, and an echo server beside it. Every KILLED seconds (420) something is killed in turn: the server, a receiver,
-# the relays. A run lasts CYCLE seconds (300). Every ten minutes it prints a line: what the client met so far, and how the radios were received.
+# the reporter. A run lasts CYCLE seconds (300). Every ten minutes it prints a line: what the client met so far, and how the radios were received.
 #
 # At the end it says what each kind of event cost: changes of run, each kind of kill, and what none of them explains. The last line is `soak passed`
 # or `soak failed: why`. It fails, with status 1, where
@@ -20,4 +20,4 @@ set -u
 cd "$(dirname "$0")/.." || exit 1
 # It's built here where that hasn't been done; without arguments it only ends with a usage error.
 [ -n "${RADIO_NTPD:-}" ] || ./radio_ntpd > /dev/null
-exec python3 -B checks/soak.py "$@"
+exec python3 -B -m checks.soak "$@"

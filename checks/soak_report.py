@@ -5,7 +5,7 @@ All moments are seconds of the monotonic clock, all spans seconds.
 
 from dataclasses import dataclass, field, replace
 
-from kept_bounds import CHANGE, KILLED, NOTHING, bound
+from checks.kept_bounds import CHANGE, KILLED, NOTHING, bound
 
 EARLY = 0.1  # a span that an event has made may begin so long before it: the request before it may be lost too
 # How long after a kill that begins no run a span may be its doing, and how long after a run's beginning.
@@ -23,10 +23,10 @@ class Kind:
 
 
 CHANGED = Kind("change of run", *CHANGE)
-SERVER, RECEIVER, RELAYS = Kind("kill of the server", *KILLED), Kind("kill of a receiver", *NOTHING), Kind("kill of the relays", *CHANGE)
-KILLS = (SERVER, RECEIVER, RELAYS)
+SERVER, RECEIVER, REPORTER = Kind("kill of the server", *KILLED), Kind("kill of a receiver", *NOTHING), Kind("kill of the reporter", *NOTHING)
+KILLS = (SERVER, RECEIVER, REPORTER)
 # Why a run begins, and by which kill alone that is as it should be.
-CAUSES = {"died": SERVER, "link": RELAYS}
+CAUSES = {"died": SERVER}
 
 
 @dataclass(frozen=True)

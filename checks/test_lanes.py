@@ -1,24 +1,19 @@
-#!/usr/bin/env python3
 """Tests of lanes.py over checks that are a few lines of shell.
 
-    checks/test_lanes.py
+    python3 -m unittest checks.test_lanes
 """
 
 import contextlib
 import io
 import os
 import re
-import sys
 import tempfile
 import threading
 import time
 import unittest
 from pathlib import Path
 
-HERE = Path(__file__).resolve().parent
-sys.path.insert(0, str(HERE))
-
-import lanes  # noqa: E402
+from checks import lanes
 
 
 class Checks(unittest.TestCase):
@@ -87,13 +82,10 @@ class Checks(unittest.TestCase):
     def test_the_gate_runs_each_check_of_this_folder_that_is_short(self):
         """What is left out is said on docs/TESTING.md to be outside the gate, or serves other checks."""
         run = {Path(check.split()[0]).name for lane in lanes.LANES for check in lane}
-        there = {path.name for path in HERE.glob("*.sh")}
-        outside = {"attacks.sh", "evening.sh", "faces.sh", "keeper_firewall.sh", "package.sh", "refuse-allocations.sh", "soak.sh", "units.sh"}
-        self.assertEqual(there - run, outside | {"serving.sh", "port_123.sh"})
-        page = (HERE.parent / "docs" / "TESTING.md").read_text()
+        there = {path.name for path in (lanes.TOP / "checks").glob("*.sh")}
+        outside = {"arm64.sh", "attacks.sh", "same_bytes.sh", "evening.sh", "faces.sh", "package.sh", "refuse-allocations.sh", "soak.sh", "units.sh"}
+        self.assertEqual(there - run, outside | {"booted.sh", "serving.sh", "port_123.sh"})
+        page = (lanes.TOP / "docs/TESTING.md").read_text()
         for name in outside:
             self.assertIn(name, page)
 
-
-if __name__ == "__main__":
-    unittest.main()

@@ -1,9 +1,7 @@
-#!/usr/bin/env python3
-"""Spoils good files by chance, runs the program over each, and judges what it writes and how it ends by checks/grammar. It shares no
-code with the program.
+"""Spoils good files by chance, runs the program over each, and judges what it writes and how it ends by lab/grammar.
 
-    torture.py COUNT SECONDS [SEED]     COUNT fuzzed files of each kind, as far as the seconds go
-    torture.py --one KIND NUMBER [SEED] writes one of them, for a look at what went wrong
+    python3 -m checks.torture COUNT SECONDS [SEED]     COUNT fuzzed files of each kind, as far as the seconds go
+    python3 -m checks.torture --one KIND NUMBER [SEED] writes one of them, for a look at what went wrong
 
 A kind is a log of a plan, a script, a station, or a journal of either form (fuzzed_kinds.py). A file has the same spoils wherever it is
 made: they depend only on the seed, the kind and the number.
@@ -19,11 +17,10 @@ import sys
 import tempfile
 import time
 
-import grammar
-
-from fuzzed_kinds import Kind, kinds
-from limited_runner import LONGEST, Runner
-from spoils import spoil
+from checks.fuzzed_kinds import Kind, kinds
+from checks.limited_runner import LONGEST, Runner
+from checks.spoils import spoil
+from lab import ends, grammar
 
 SEED = 2026
 
@@ -114,7 +111,4 @@ def main() -> None:
 
 
 if __name__ == "__main__":
-    try:
-        main()
-    except OSError as fault:
-        sys.exit(f"torture.py: {fault}")
+    ends.run(main)

@@ -1,62 +1,21 @@
 #!/bin/sh
-# The keeper's unit under systemd, in a Debian of its own that systemd-nspawn boots, with the package of packaging/build_deb.sh in it and a receiver in
-# software in the place of one on a pin. Clients on port 123 have to get the time. Then ten kills in turn (all of it, the keeper, the server, the
-# receiver), and each time the *time* has to come back, within 50 ms of the host's clock; the files are read anew without a gap; a keeper that hangs is
-# ended by systemd's watchdog; a stop leaves a whole journal and no process. It takes five minutes and 400 MB of disk, and isn't in the gate. Needs root,
-# debootstrap, systemd-container, port 123 and the network of Debian's packages; DEBIAN names a folder that has such a Debian already, with systemd,
-# python3 and procps, which is copied. RADIO_NTPD names the program where it isn't the one of this folder.
+# The keeper's unit under systemd, in a Debian of its own with the package of packaging/build_deb.sh and a receiver in software in the place of one on
+# a pin. Clients on port 123 have to get the time. Then ten kills in turn (all of it, the keeper, the server, the receiver), and each time the *time*
+# has to come back, within 50 ms of the host's clock; the files are read anew without a gap; a keeper that hangs is ended by systemd's watchdog; a
+# stop leaves a whole journal and no process. It takes five minutes and 400 MB of disk, and isn't in the gate. checks/booted.sh says what it needs.
 #
 #     checks/units.sh
 set -u
 cd "$(dirname "$0")/.." || exit 1
 name=units
-export LC_ALL=C
-PATH="$PATH:/usr/sbin:/sbin"
-work=$(mktemp -d) || exit 1
-host="$work/host"
-bad=0
-nspawn=
-# Ends the Debian, if it still runs: its own first process takes this signal as a power-off.
-finish() {
-    if [ -n "$nspawn" ]; then
-        kill "$nspawn" 2> "$work/none"
-        wait "$nspawn"
-    fi
-    rm -rf "$work"
-}
-trap finish EXIT
-trap 'exit 1' INT TERM
-wrong() {
-    echo "$name: $*" >&2
-    bad=1
-}
+. checks/booted.sh
 
-deb=$(packaging/build_deb.sh "$work") || exit 1
-{
-    if [ -n "${DEBIAN:-}" ]; then
-        cp -a "$DEBIAN" "$host"
-    else
-        debootstrap --variant=minbase --include=systemd,systemd-sysv,python3,procps bookworm "$host"
-    fi && cp "$deb" "$host/tmp/radio-ntpd.deb" && chroot "$host" dpkg --install /tmp/radio-ntpd.deb && chroot "$host" systemctl enable radio_ntpd
-} > "$work/installed" 2>&1 || { tail -n 5 "$work/installed" >&2; exit 1; }
-mkdir -p "$host/opt/bench"
-cp bench/*.py "$host/opt/bench/"
-printf 'bound = 1000\n[[radio]]\nplan = "dcf"\nlog = "x"\n[[link]]\nport = 123\n' > "$host/etc/radio_ntpd/station.toml"
-# A receiver has no history. This one has eight minutes of it at its first start, so that the check needn't wait for them.
-cat > "$host/usr/local/bin/receiver" <<'SH'
-#!/bin/sh
-history=8
-[ ! -e /var/lib/radio_ntpd/heard ] || history=0
-: > /var/lib/radio_ntpd/heard
-exec /opt/bench/soft_receiver.py --plan dcf --live 86400 --form edges --history $history
-SH
-chmod +x "$host/usr/local/bin/receiver"
-cat > "$host/etc/radio_ntpd/keeper.toml" <<'TOML'
-station = "station.toml"
-state = "/var/lib/radio_ntpd"
-[[radio]]
-command = "receiver | /usr/lib/radio_ntpd/feeders/edges_to_log.py"
-TOML
+make_package
+make_debian
+boot
+install_package
+use_soft_receiver
+inside systemctl enable --now radio_ntpd > "$work/enabled" 2>&1 || fails "it can't be started: $(cat "$work/enabled")"
 
 # How far the time on port 123 is off, in milliseconds, by the quickest of eight exchanges; or why there is none. It waits $1 seconds for one.
 cat > "$work/time.py" <<'PY'
@@ -95,22 +54,8 @@ print(said)
 sys.exit(1)
 PY
 
-systemd-nspawn --quiet --directory="$host" --register=no --keep-unit --boot > "$work/booted" 2>&1 < /dev/null &
-nspawn=$!
-leader=
-for _ in 1 2 3 4 5 6 7 8 9 10 11 12 13 14 15; do
-    sleep 2
-    leader=$(pgrep -P "$nspawn") && nsenter --all --target="$leader" test -d /run/systemd/system && break
-done
-[ -n "$leader" ] || { echo "$name: nothing was booted: $(tail -n 3 "$work/booted")" >&2; exit 1; }
-inside() {
-    nsenter --all --target="$leader" "$@"
-}
 has_time() {
-    told=$(python3 -B "$work/time.py" "$2") || wrong "$1: $told; $(inside journalctl --no-pager -n 8 -u radio_ntpd 2>&1)"
-}
-property() {
-    inside systemctl show --property="$1" --value radio_ntpd
+    told=$(in_network python3 -B "$work/time.py" "$2") || wrong "$1: $told; $(inside journalctl --no-pager -n 8 -u radio_ntpd 2>&1)"
 }
 # The children of the keeper's own process that have these words.
 child() {
@@ -120,12 +65,7 @@ child() {
 has_time 'at the start' 90
 [ "$(property ActiveState)" = active ] || wrong "the unit is $(property ActiveState)"
 # The state is renewed every ten seconds, and the root dispersion is great until eight minutes were read.
-turns=0
-until inside radio_keeper status > "$work/status"; do
-    turns=$((turns + 1))
-    [ $turns -lt 30 ] || { wrong "the status says: $(head -n 3 "$work/status")"; break; }
-    sleep 1
-done
+until_well 'at the start' 30
 
 killed=0
 longest=0
@@ -134,7 +74,7 @@ while [ $killed -lt 10 ]; do
         0) what='all of it' && inside systemctl kill --kill-whom=all --signal=KILL radio_ntpd ;;
         1) what='the keeper' && inside kill -KILL "$(property MainPID)" ;;
         2) what='the server' && inside kill -KILL "$(child 'radio_ntpd serve')" ;;
-        3) what='the receiver' && inside kill -KILL "$(child 'soft_receiver.py --plan dcf')" ;;
+        3) what='the receiver' && inside kill -KILL "$(child 'lab.receiver --plan dcf')" ;;
     esac || wrong "$what couldn't be killed"
     began=$(date +%s%N)
     sleep 0.2
@@ -150,6 +90,12 @@ done
 before=$(property MainPID)
 inside systemctl reload radio_ntpd || wrong "it can't be reloaded"
 has_time 'after a reload' 5
+cp "$host/etc/radio_ntpd/keeper.toml" "$work/keeper.toml"
+echo 'nosuch = 1' > "$host/etc/radio_ntpd/keeper.toml"
+inside systemctl reload radio_ntpd 2> "$work/reloaded" && wrong 'a reload of a refused file succeeds'
+cp "$work/keeper.toml" "$host/etc/radio_ntpd/keeper.toml"
+has_time 'after a reload that was refused' 5
+[ -z "$(inside cat "/proc/$before/status" | sed -n 's/^Cap[A-Za-z]*:\t0*\([1-9a-f]\)/\1/p')" ] || wrong 'the keeper has a capability'
 [ "$(property MainPID)" = "$before" ] || wrong 'a reload started another keeper'
 
 inside kill -STOP "$before"
@@ -161,13 +107,10 @@ until [ "$(property MainPID)" != "$before" ]; do
 done
 has_time 'a keeper that hung was ended' 30
 
-inside systemctl stop radio_ntpd || wrong "it can't be stopped"
+inside systemctl stop radio_ntpd.socket radio_ntpd || wrong "it can't be stopped"
 [ -z "$(inside pgrep -u radio_ntpd)" ] || wrong "after the stop there is $(inside pgrep -a -u radio_ntpd)"
 last=$(find "$host/var/lib/radio_ntpd/journals" -name '*.journal' | LC_ALL=C sort | tail -n 1)
 [ "$(tail -n 1 "$last")" = 'status 0' ] || wrong "the last journal ends with $(tail -n 1 "$last")"
-[ "$(property Result)" = success ] || wrong "the unit's result is $(property Result)"
-inside systemctl poweroff 2> "$work/off"
-wait "$nspawn"
-nspawn=
+[ "$(property Result)" = success ] || wrong "the unit's result is $(property Result): $(inside journalctl --no-pager -n 12 -u radio_ntpd 2>&1)"
 [ "$bad" = 0 ] && echo "$name: ten kills, a reload, a keeper that hung: the time came back each time, within ${longest} ms at most"
 exit "$bad"

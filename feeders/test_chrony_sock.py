@@ -11,16 +11,14 @@ import signal
 import socket
 import struct
 import subprocess
-import sys
 import tempfile
 import time
 import unittest
 
 HERE = pathlib.Path(__file__).parent
-sys.path.insert(0, str(HERE))
 os.environ["PATH"] += ":/usr/sbin:/sbin"
 
-from chrony_sock import SAMPLES, Bridge, Clocks, Verdict, read_verdict  # noqa: E402
+from chrony_sock import SAMPLES, Bridge, Clocks, Verdict, read_verdict
 
 # 2026-01-01 12:00 UTC, in seconds since 1900 and since 1970.
 NOON = 3_976_257_600
@@ -242,5 +240,4 @@ class Chronyd(unittest.TestCase):
 
 
 if __name__ == "__main__":
-    sys.dont_write_bytecode = True
     unittest.main()

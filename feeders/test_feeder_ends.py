@@ -10,15 +10,12 @@ import pathlib
 import shutil
 import signal
 import subprocess
-import sys
 import unittest
 
 HERE = pathlib.Path(__file__).resolve().parent
-sys.path.insert(0, str(HERE))
-
-import chrony_sock  # noqa: E402
-import serial_edges  # noqa: E402
-from test_feeders import RADIOS, ours, ran  # noqa: E402
+import chrony_sock
+import serial_edges
+from test_edges_to_log import RADIOS, ours, ran
 
 
 class Ends(unittest.TestCase):
@@ -141,5 +138,4 @@ class Sentences(unittest.TestCase):
 
 
 if __name__ == "__main__":
-    sys.dont_write_bytecode = True
     unittest.main()

@@ -19,9 +19,7 @@ import unittest
 from unittest import mock
 
 HERE = pathlib.Path(__file__).resolve().parent
-sys.path.insert(0, str(HERE))
-
-import serial_edges  # noqa: E402
+import serial_edges
 
 GET, PUT_ON, PUT_OFF, WAIT = 0x5415, 0x5416, 0x5417, 0x545C
 DTR, RTS = 0x002, 0x004
@@ -169,5 +167,4 @@ class Ports(unittest.TestCase):
 
 
 if __name__ == "__main__":
-    sys.dont_write_bytecode = True
     unittest.main()

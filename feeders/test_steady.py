@@ -7,13 +7,10 @@
 import pathlib
 import random
 import statistics
-import sys
 import unittest
 
 HERE = pathlib.Path(__file__).parent
-sys.path.insert(0, str(HERE))
-
-from steady import PhaseLine, Steady  # noqa: E402
+from steady import PhaseLine, Steady
 
 SECOND = 1_000_000
 RADIOS = HERE.parent / "examples" / "radios"
@@ -235,5 +232,4 @@ class Rules(unittest.TestCase):
 
 
 if __name__ == "__main__":
-    sys.dont_write_bytecode = True
     unittest.main()

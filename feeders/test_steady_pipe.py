@@ -6,7 +6,6 @@
 
 import pathlib
 import subprocess
-import sys
 import unittest
 
 HERE = pathlib.Path(__file__).parent
@@ -80,5 +79,4 @@ class Pipe(unittest.TestCase):
 
 
 if __name__ == "__main__":
-    sys.dont_write_bytecode = True
     unittest.main()

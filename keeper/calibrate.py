@@ -2,56 +2,65 @@
 
 import dataclasses
 import os
-import select
+import sys
 import time
 
 from keeper import config
 from keeper.check import keeper_runs
-from keeper.children import Guard
 from keeper.chosen_file import chosen
-from keeper.decoder import Decoder
-from keeper.hosts import become_service
+from keeper.errors import DONE, NOT_WELL, Fault, Parser
+from keeper.host_checks import become_service
 from keeper.lateness import LEAST, Minute, Minutes, result, sentences
-from keeper.lines import Lines
-from keeper.pulse_log import PulseLog, day_of
 from keeper.reference import HostClock, Server
-from keeper.say import say
-from keeper.source import Command, Ended, Fifo, Growing, source_of
-from keeper.words import DONE, NOT_WELL, Fault, Parser
+from keeper.reporter.decoder import Decoder
+from keeper.supervisor.clocks import counter, tag_of
+from keeper.supervisor.logs import PulseLog
+from keeper.supervisor.pulses import Lines
+from keeper.supervisor.host import Host
+from keeper.supervisor.sources import Ended, Source, source_of
 
 MINUTES = 60
-FEWEST = LEAST + 3  # the first minute is cut, and the next one has none before it to agree with; a minute of a sender may have begun, too
+# The first minute is cut, and the next one has none before it to agree with; a minute of a sender
+# may have begun, too.
+FEWEST = LEAST + 3
 REPORTS = 20  # how often it says how far it is
 PACE = 64  # seconds between two requests to a server
+RANGES = (("pace", 16, 1024), ("minutes", FEWEST, 10080), ("port", 1, 65535))
 
 
 def parser() -> Parser:
-    words = Parser(prog="radio_keeper calibrate", description="Says which delay to set for a radio, by a server's time or the host's clock.")
-    words.add_argument("--config", metavar="FILE", help="the keeper's file (keeper.toml here or in /etc/radio_ntpd)")
+    words = Parser(prog="radio_keeper calibrate", description="Says which delay to set for a "
+                   "radio, by a server's time or the host's clock.")
+    words.add_config()
     words.add_argument("--radio", type=int, default=0, help="its number, from 0 (0)")
-    words.add_argument("--server", metavar="ADDRESS", help="compare with this server; without it the host's clock counts")
+    words.add_argument("--server", metavar="ADDRESS",
+                       help="compare with this server; without it the host's clock counts")
     words.add_argument("--port", type=int, default=123, help="the server's port (123)")
-    words.add_argument("--pace", type=int, default=PACE, help=f"seconds between two requests to it, 16 to 1024 ({PACE})")
-    words.add_argument("--minutes", type=int, default=MINUTES, help=f"how long to listen, {FEWEST} to 10080 ({MINUTES})")
+    words.add_argument("--pace", type=int, default=PACE,
+                       help=f"seconds between two requests to it, 16 to 1024 ({PACE})")
+    words.add_argument("--minutes", type=int, default=MINUTES,
+                       help=f"how long to listen, {FEWEST} to 10080 ({MINUTES})")
     return words
 
 
 def main(given: list[str]) -> int:
     words = parser()
     asked = words.parse_args(given)
-    for name, least, most in (("pace", 16, 1024), ("minutes", FEWEST, 10080), ("port", 1, 65535)):
+    for name, least, most in RANGES:
         if not least <= getattr(asked, name) <= most:
             words.error(f"--{name} is {least} to {most}")
     settings = config.load(chosen(asked.config))
     become_service(settings)
     config.judge(settings)
     if not 0 <= asked.radio < len(settings.radios):
-        raise Fault(f"there is no radio {asked.radio}: the station has {len(settings.radios)}")
-    reference: Server | HostClock
+        said = f"the station has {len(settings.radios)}"
+        raise Fault(f"there is no radio {asked.radio}: {said}")
     try:
-        reference = Server(asked.server, asked.port, asked.pace) if asked.server else HostClock()
+        server = Server(asked.server, asked.port, asked.pace) if asked.server else None
     except (OSError, UnicodeError) as error:
-        raise Fault(f"the server {asked.server} can't be asked: {getattr(error, 'strerror', None) or error}") from error
+        why = getattr(error, "strerror", None) or error
+        raise Fault(f"the server {asked.server} can't be asked: {why}") from error
+    reference = server or HostClock()
     print(f"radio {asked.radio} is read for {asked.minutes} min; ^C ends that", flush=True)
     try:
         minutes = listen(settings, asked.radio, reference, asked.minutes * 60.0)
@@ -60,78 +69,85 @@ def main(given: list[str]) -> int:
     return conclude(settings.radios[asked.radio], minutes, reference)
 
 
-def conclude(radio: config.Radio, minutes: list[Minute], reference: Server | HostClock) -> int:
+def conclude(radio: config.Radio, minutes: list[Minute], reference: HostClock) -> int:
     """Prints what follows."""
     print(f"compared with {reference.words()}")
-    known = [(one, reference.offset_at(one.at)) for one in minutes]
-    shifted = [dataclasses.replace(one, late=one.late + offset, closing=one.closing + offset) for one, offset in known if offset is not None]
+    known = [(one, offset) for one in minutes
+             if (offset := reference.offset_at(one.at)) is not None]
+    shifted = [dataclasses.replace(one, late=one.late + offset, closing=one.closing + offset)
+               for one, offset in known]
     found = result(shifted)
     if found is None:
         print(f"{len(shifted)} minutes were believed and could be compared; {LEAST} are needed")
         return NOT_WELL
-    print(f"{found.minutes} minutes were believed")
     said = sentences(found, radio.plan, round(radio.delay * 1e6))
-    print("\n".join(said))
+    print(f"{found.minutes} minutes were believed", *said, sep="\n")
     return DONE if said[-1].startswith("set ") else NOT_WELL
 
 
 class Feed:
     """The lines of a radio: of its source, or of the log that a keeper writes while it runs."""
 
-    def __init__(self, settings: config.Settings, number: int, guard: Guard) -> None:
-        radio = settings.radios[number]
-        self.log = PulseLog(os.path.join(settings.folder, "logs"), number, radio.plan, settings.days, say) if keeper_runs(settings) else None
-        self.radio, self.guard = radio, guard
-        self.day = ""
-        self.source: Command | Fifo | Growing | None = None
+    def __init__(self, host: Host, settings: config.Settings, number: int) -> None:
+        self.host, self.radio, self.path = host, settings.radios[number], ""
+        self.log: PulseLog | None = None
+        if keeper_runs(settings):
+            folder = os.path.join(settings.folder, "logs")
+            tag = tag_of(counter(host, host.boot()), f"{self.radio.kind} {self.radio.value}")
+            self.log = PulseLog(host, folder, number, self.radio.plan, tag)
+        self.source = self._begin()
+
+    def _today(self) -> str:
+        """The log of today."""
+        return os.path.join(self.log.folder, self.log.name(time.time())) if self.log else ""
+
+    def _begin(self) -> Source:
+        self.path = self._today()
+        kind, value = ("file", self.path) if self.log else (self.radio.kind, self.radio.value)
+        source = source_of(self.host, kind, value)
+        source.begin()
+        return source
 
     def read(self) -> bytes:
-        """What came, b"" for nothing. Raises OSError and Ended."""
-        if self.source is None:
-            self.day = day_of(time.time())
-            self.source = source_of("file", self.log.path(self.day), self.guard) if self.log else source_of(self.radio.kind, self.radio.value, self.guard)
-            self.source.begin()
+        """What came within a fifth of a second, b"" for nothing. Raises OSError and Ended."""
+        awaits = self.source.awaits
+        self.host.wait([awaits] if awaits >= 0 else [], 0.2)
         piece = self.source.read()
-        if not piece and self.log and self.day != day_of(time.time()) and os.path.exists(self.log.path(day_of(time.time()))):
-            self.close()
+        if not piece and self.path != self._today() and os.path.exists(self._today()):
+            self.source.close()
+            self.source = self._begin()
         return piece
 
-    def wait(self, also: int, seconds: float) -> None:
-        """Waits for something to read, here or by another descriptor, for at most this number of seconds."""
-        known = (also, self.source.descriptor if self.source else -1)
-        select.select([one for one in known if one >= 0], [], [], seconds)
 
-    def close(self) -> None:
-        if self.source is not None:
-            self.source.end()
-            self.source = None
-
-
-def listen(settings: config.Settings, number: int, reference: Server | HostClock, seconds: float) -> list[Minute]:
-    """The minutes that were believed within a number of seconds. A log that a keeper writes gives those before too, where the host's clock counts."""
+def listen(settings: config.Settings, number: int, reference: HostClock,
+           seconds: float) -> list[Minute]:
+    """The minutes that were believed within a number of seconds. A log that a keeper writes gives
+    those before too, where the host's clock counts."""
     began = time.time()
     minutes = Minutes(began - time.monotonic())
     decoder = Decoder(settings.program, settings.radios[number].plan, minutes.take)
-    guard, lines = Guard(), Lines()
-    feed = Feed(settings, number, guard)
+    lines, feed = Lines(), Feed(Host(), settings, number)
     end, due = time.monotonic() + seconds, time.monotonic() + seconds / REPORTS
     try:
         while (now := time.monotonic()) < end:
             reference.turn(now)
-            for pulse in lines.take(feed.read(), time.monotonic_ns() // 1000):
+            piece = feed.read()
+            for pulse in lines.take(piece, time.monotonic_ns() // 1000):
                 minutes.pulse(pulse.start, pulse.width)
                 decoder.give(pulse.line(), now)
             decoder.turn()
             if now >= due:
                 due += seconds / REPORTS
-                say(f"{(seconds - end + now) / 60:.0f} of {seconds / 60:.0f} min: {len(minutes.found)} minutes were believed")
-            feed.wait(reference.descriptor, 0.2)
+                so_far = f"{(seconds - end + now) / 60:.0f} of {seconds / 60:.0f} min"
+                clock = time.strftime("%H:%M:%S", time.gmtime())
+                print(f"{clock} {so_far}: {len(minutes.found)} minutes were believed",
+                      file=sys.stderr, flush=True)
     except Ended as error:
         raise Fault(f"radio {number}: its source ended: {error}") from error
     except KeyboardInterrupt:
         pass  # what was read up to here counts
     finally:
-        feed.close()
+        feed.source.close()
         decoder.close()
-        guard.close()
-    return minutes.found if isinstance(reference, HostClock) else [one for one in minutes.found if one.at >= began]
+    is_host = not isinstance(reference, Server)
+    return [one for one in minutes.found if is_host or one.at >= began]

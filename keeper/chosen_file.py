@@ -3,7 +3,7 @@
 import os
 import stat
 
-from keeper.words import REFUSED, Fault
+from keeper.errors import REFUSED, Fault
 
 HERE = "keeper.toml"
 INSTALLED = "/etc/radio_ntpd/keeper.toml"

@@ -1,31 +1,30 @@
-"""The keeper's file, `keeper.toml`, and the station file that it names. A key that isn't known, is missing or out of range is refused by name."""
+"""The keeper's file, `keeper.toml`, and the station file that it names. A key that isn't known, is
+missing or out of range is refused by name."""
 
-import errno
 import hashlib
 import os
 import re
-import socket
 import subprocess
 import tomllib
 from dataclasses import dataclass, field
 from typing import Any, NoReturn
 
 from keeper.chosen_file import built_program
-from keeper.station import longest_cycle
-from keeper.words import REFUSED, Fault, reason, sentence
+from keeper.errors import REFUSED, Fault, reason, sentence
 
-# Without pacing servers are asked at the start of a run alone, so what they said is at most this old, in seconds.
+# Without pacing servers are asked at the start of a run alone, so what they said is at most this
+# old (s).
 UNPACED_CYCLE = 300
 KINDS = ("command", "fifo", "file")
-JUDGED = 20.0  # how long the program may take to judge a station file, in seconds
+JUDGED = 20.0  # how long the program may take to judge a station file (s)
 MOST = 65536  # bytes of a station file
 LARGEST = 2**53  # no number of a station is greater
 
 
 @dataclass(frozen=True)
 class Radio:
-    """A radio's source: `kind` is `command`, `fifo` or `file`, and `value` the command or the name. `stall` and `delay` are seconds;
-    `steady` says whether its pulses are steadied."""
+    """A radio's source: `kind` is `command`, `fifo` or `file`, and `value` the command or the name.
+    `stall` and `delay` are seconds; `steady` says whether its pulses are steadied."""
 
     kind: str
     value: str
@@ -38,7 +37,8 @@ class Radio:
     @property
     def origin(self) -> str:
         """A digest of what names its source: a command may have what isn't for everybody."""
-        return hashlib.sha256(f"{self.kind} {self.value}".encode(errors="surrogateescape")).hexdigest()[:16]
+        what = f"{self.kind} {self.value}".encode(errors="surrogateescape")
+        return hashlib.sha256(what).hexdigest()[:16]
 
 
 @dataclass(frozen=True)
@@ -52,15 +52,18 @@ class Alarms:
 
 @dataclass(frozen=True)
 class Settings:
-    """What both files say. `text` is the station's TOML as it was read; `cycle`, `pace`, `bound` and `gap` are seconds."""
+    """What both files say. `text` is the station's TOML as it was read; `cycle`, `pace`, `bound`
+    and `gap` are seconds; `room` is what logs and journals may have each, in bytes."""
 
     path: str
     station: str
     text: dict
     program: str
     folder: str
+    runtime: str
     cycle: float
     days: int
+    room: int
     pace: float
     radios: list[Radio]
     links: list[int]
@@ -72,26 +75,31 @@ class Settings:
     alarms: Alarms = field(default_factory=Alarms)
 
 
-# Each key: its types and its least and greatest value.
+# Each key: its type and its least and greatest value.
 TOP = {
-    "station": (str,), "program": (str,), "state": (str,), "cycle": (int, 2, 86400 * 7), "days": (int, 1, 3650),
+    "station": (str,), "program": (str,), "state": (str,), "runtime": (str,),
+    "cycle": (int, 2, 86400 * 7), "days": (int, 1, 3650), "room": (int, 10, 1_000_000),
     "pace": (int, 0, 1024), "alarms": (dict,), "radio": (list,),
 }
 ALARMS = {"command": (str,), "unheard": (int, 60, 86400 * 30), "limit": (int, 1, 3600)}
-RADIO = {"command": (str,), "fifo": (str,), "file": (str,), "name": (str,), "stall": (int, 2, 86400), "steady": (bool,)}
+RADIO = {"command": (str,), "fifo": (str,), "file": (str,), "name": (str,),
+         "stall": (int, 2, 86400), "steady": (bool,)}
+TYPES = {str: "a string", int: "a whole number", bool: "true or false", dict: "a table",
+         list: "an array of tables"}
 
 
 def line_of(text: str, key: str, table: str = "", place: int = 0) -> str:
-    """` (line N)` for a key of the top, of a table, or of the table at a place of an array; nothing where it isn't found."""
+    """` (line N)` for a key of the top, of a table, or of the table at a place of an array; nothing
+    where it isn't found."""
     now, seen = "", dict[str, int]()
+    is_key = re.compile(rf"\s*[\"']?{re.escape(key)}[\"']?\s*[=.]")
     for number, line in enumerate(text.splitlines(), 1):
-        head = re.match(r"\s*\[\[?\s*([\w.-]+)\s*\]\]?", line)
-        if head:
+        if head := re.match(r"\s*\[\[?\s*([\w.-]+)\s*\]\]?", line):
             now = head[1]
             seen[now] = seen.get(now, -1) + 1
             if key == now and not table:
                 return f" (line {number})"
-        elif now == table and seen.get(now, 0) == place and re.match(rf"\s*[\"']?{re.escape(key)}[\"']?\s*[=.]", line):
+        elif now == table and seen.get(now, 0) == place and is_key.match(line):
             return f" (line {number})"
     return ""
 
@@ -100,25 +108,27 @@ def read(path: str) -> tuple[dict, str]:
     """A TOML file and its text. Raises Fault."""
     try:
         with open(path, "rb") as file:
-            text = file.read(MOST + 1).decode("utf-8-sig")  # an editor's byte order mark is passed over, as the program does
+            data = file.read(MOST + 1)
+        if len(data) > MOST:
+            raise Fault(f"{path}: it has more than {MOST} bytes", REFUSED)
+        text = data.decode("utf-8-sig")  # a byte order mark is passed over, as the program does
+        return tomllib.loads(text), text
     except OSError as error:
         raise Fault(sentence(error), REFUSED) from error
     except UnicodeDecodeError as error:
         raise Fault(f"{path}: it isn't UTF-8", REFUSED) from error
-    if len(text.encode()) > MOST:
-        raise Fault(f"{path}: it has more than {MOST} bytes", REFUSED)
-    try:
-        return tomllib.loads(text), text
-    except (ValueError, RecursionError) as error:  # a number of thousands of digits is a ValueError that isn't of tomllib's own
+    except (ValueError, RecursionError) as error:  # also a number of thousands of digits
         raise Fault(f"{path}: it is no TOML: {error}", REFUSED) from error
 
 
 class Keys:
-    """The keys of one table of the keeper's file, judged one by one; `where` is what a fault puts before a key."""
+    """The keys of one table of the keeper's file, judged one by one. `table` and `place` say which
+    table it is. Raises Fault."""
 
-    def __init__(self, path: str, text: str, values: dict, known: dict, table: str = "", place: int | None = None) -> None:
-        self.path, self.text, self.values, self.table, self.place = path, text, values, table, place
-        self.where = table if place is None else f"{table}.{place}"
+    def __init__(self, path: str, text: str, values: dict, known: dict, table: str = "",
+                 place: int | None = None) -> None:
+        self.path, self.text, self.values = path, text, values
+        self.table, self.place = table, place
         for key in values:
             if key not in known:
                 self.refuse(key, "a key that isn't known")
@@ -128,37 +138,48 @@ class Keys:
 
     def refuse(self, key: str, why: str) -> NoReturn:
         line = line_of(self.text, key, self.table, self.place or 0)
-        raise Fault(f"{self.path}: {self.where + '.' if self.where else ''}{key}: {why}{line}", REFUSED)
+        place = "" if self.place is None else f"{self.place}."
+        where = f"{self.table}.{place}" if self.table else ""
+        raise Fault(f"{self.path}: {where}{key}: {why}{line}", REFUSED)
 
     def _judge(self, key: str, value: Any, kind: Any, limits: list[int]) -> None:
         if type(value) is not kind:
-            names = {str: "a string", int: "a whole number", bool: "true or false", dict: "a table", list: "an array of tables"}
-            self.refuse(key, f"it isn't {names[kind]}")
+            self.refuse(key, f"it isn't {TYPES[kind]}")
         if limits and not limits[0] <= value <= limits[1]:
             self.refuse(key, f"{value} isn't within {limits[0]} to {limits[1]}")
         if kind is str and (not value.strip() or "\0" in value):
             self.refuse(key, "it is empty")
 
 
-def _table(values: dict, key: str) -> list[dict]:
+def _tables(values: dict, key: str) -> list[dict]:
     """The tables of an array of the station; what is none is left for the program to refuse."""
     found = values.get(key, [])
     return [one for one in found if isinstance(one, dict)] if isinstance(found, list) else []
 
 
 def _number(values: dict, key: str, default: float) -> float:
-    """A number of the station; the default where it is none, or so great that the program refuses it anyway."""
-    return values[key] if type(values.get(key)) is int and abs(values[key]) < LARGEST else default
+    """A number of the station; the default where it is none, or so great that the program refuses
+    it anyway."""
+    value = values.get(key)
+    return value if type(value) is int and abs(value) < LARGEST else default
+
+
+def _text(values: dict, key: str) -> str | None:
+    """A text of the station; None where it is none."""
+    value = values.get(key)
+    return value if isinstance(value, str) else None
 
 
 def _port(values: dict) -> int:
-    """The port of a link or a server, 1 to 65535; 0 where it has none, which the program refuses."""
-    port = values.get("port")
-    return port if type(port) is int and 0 < port < 65536 else 0
+    """The port of a link or a server, 1 to 65535; 0 where it has none, which the program
+    refuses."""
+    port = _number(values, "port", 0)
+    return int(port) if 0 < port < 65536 else 0
 
 
 def load(path: str) -> Settings:
-    """Both files. Raises Fault for the first thing that isn't right; whether the station itself is valid `judge` asks the program."""
+    """Both files. Raises Fault for the first thing that isn't right; whether the station itself is
+    valid `judge` asks the program."""
     values, text = read(path)
     base = os.path.dirname(os.path.abspath(path))
     top = Keys(path, text, values, TOP)
@@ -167,24 +188,26 @@ def load(path: str) -> Settings:
         top.refuse("station", "it is missing")
     station_path = os.path.join(base, values["station"])
     station, _ = read(station_path)
-    tables = _table(station, "radio")
-    radios = [_radio(path, text, one, place, tables) for place, one in enumerate(values.get("radio", []))]
+    tables = _tables(station, "radio")
+    radios = [_radio(path, text, one, place, tables)
+              for place, one in enumerate(values.get("radio", []))]
     if len(radios) != len(tables):
-        raise Fault(f"{path}: radio: there are {len(radios)} tables [[radio]] here, and {len(tables)} in {station_path}{line_of(text, 'radio')}", REFUSED)
-    servers = [(one["address"], _port(one)) for one in _table(station, "server") if isinstance(one.get("address"), str) and _port(one)]
-    pace = values.get("pace", 16)
-    if servers and pace and "cycle" in values and values["cycle"] > longest_cycle(pace):
-        top.refuse("cycle", f"with servers it is at most {int(longest_cycle(pace))} at this pace: their polls last no longer")
+        here, line = f"there are {len(radios)} tables [[radio]] here", line_of(text, "radio")
+        raise Fault(f"{path}: radio: {here}, and {len(tables)} in {station_path}{line}", REFUSED)
+    servers = [(address, port) for one in _tables(station, "server")
+               if (address := _text(one, "address")) is not None and (port := _port(one))]
+    pace, folder = values.get("pace", 16), os.path.join(base, values.get("state", "state"))
+    program = os.path.join(base, values["program"]) if "program" in values else built_program()
     return Settings(
-        path=os.path.abspath(path), station=station_path, text=station,
-        program=os.path.join(base, values["program"]) if "program" in values else built_program(),
-        folder=os.path.join(base, values.get("state", "state")),
-        cycle=values.get("cycle", UNPACED_CYCLE if servers and not pace else 3600), days=values.get("days", 30), pace=pace,
-        radios=radios, links=[_port(one) for one in _table(station, "link") if _port(one)], servers=servers,
-        denied=[one["net"] for one in _table(station, "deny") if isinstance(one.get("net"), str)],
+        path=os.path.abspath(path), station=station_path, text=station, program=program,
+        folder=folder, runtime=os.path.join(base, values.get("runtime", folder)),
+        cycle=values.get("cycle", UNPACED_CYCLE if servers and not pace else 3600),
+        days=values.get("days", 30), room=values.get("room", 1000) * 1_000_000, pace=pace,
+        radios=radios, links=[port for one in _tables(station, "link") if (port := _port(one))],
+        servers=servers,
+        denied=[net for one in _tables(station, "deny") if (net := _text(one, "net")) is not None],
         gap=_number(station, "gap", 0) / 1e6, bound=_number(station, "bound", 1000) / 1e3,
-        leap_file=station["leap_file"] if isinstance(station.get("leap_file"), str) else None, alarms=Alarms(**alarms),
-    )
+        leap_file=_text(station, "leap_file"), alarms=Alarms(**alarms))
 
 
 def _radio(path: str, text: str, values: object, place: int, tables: list[dict]) -> Radio:
@@ -193,57 +216,46 @@ def _radio(path: str, text: str, values: object, place: int, tables: list[dict])
     keys = Keys(path, text, values, RADIO, "radio", place)
     named = [kind for kind in KINDS if kind in values]
     if len(named) != 1:
-        keys.refuse(named[1] if named else "command", "one of command, fifo and file must stand there, and no more than one")
+        which = named[1] if named else "command"
+        keys.refuse(which, "one of command, fifo and file must stand there, and no more than one")
     if not values.get("name", "").isprintable():
         keys.refuse("name", "it has a character that can't be printed")
     table = tables[place] if place < len(tables) else {}
-    plan = table["plan"] if isinstance(table.get("plan"), str) else ""
-    value = values[named[0]]
+    plan, value = _text(table, "plan") or "", values[named[0]]
     if named[0] != "command":
         value = os.path.join(os.path.dirname(os.path.abspath(path)), value)
-    return Radio(named[0], value, values.get("name", plan), values.get("stall", 60), plan, _number(table, "delay", 0) / 1e6, values.get("steady", False))
-
-
-def ask_host(settings: Settings, ports: list[int]) -> None:
-    """Whether the host gives what a run of these settings opens, but for these ports, which are the keeper's own. Raises Fault."""
-    if settings.leap_file and (why := unreadable(settings.leap_file)):
-        raise Fault(f"leap_file {settings.leap_file}: {why}")
-    for port in settings.links:
-        if port not in ports:
-            try:
-                with socket.socket(socket.AF_INET, socket.SOCK_DGRAM) as link:
-                    link.bind(("0.0.0.0", port))
-            except OSError as error:
-                if error.errno == errno.EADDRINUSE:
-                    raise Fault(f"port {port}: {error.strerror}") from error
-                # Else the program may have a right that the keeper has not.
+    return Radio(named[0], value, values.get("name", plan), values.get("stall", 60), plan,
+                 _number(table, "delay", 0) / 1e6, values.get("steady", False))
 
 
 def unreadable(path: str) -> str:
     """Why a file can't be read; nothing where it can."""
     try:
-        descriptor = os.open(path, os.O_RDONLY | os.O_NONBLOCK | os.O_CLOEXEC)  # a FIFO would be waited for
-        try:
-            os.read(descriptor, 1)
-        finally:
-            os.close(descriptor)
+        descriptor = os.open(path, os.O_RDONLY | os.O_NONBLOCK)  # a FIFO would be waited for
+        with open(descriptor, "rb") as file:
+            file.read(1)
     except OSError as error:
         return error.strerror or str(error)
     return ""
 
 
 def judge(settings: Settings) -> None:
-    """Asks the program itself whether the station is valid. Raises Fault with its sentence and its status."""
-    words = [settings.program, "replay", "--station", settings.station, "--script", "/dev/null"]
+    """Asks the program itself whether the station is valid. Raises Fault with its sentence and its
+    status."""
+    program, station = settings.program, settings.station
+    words = [program, "replay", "--station", station, "--script", "/dev/null"]
     try:
         done = subprocess.run(words, stdin=subprocess.DEVNULL, capture_output=True, timeout=JUDGED)
     except OSError as error:
-        raise Fault(f"the program {settings.program} can't be run: {error.strerror}") from error
+        raise Fault(f"the program {program} can't be run: {error.strerror}") from error
     except subprocess.TimeoutExpired as error:
-        raise Fault(f"the program {settings.program} doesn't judge the station within {JUDGED:.0f} s") from error
-    last = done.stdout.decode("ascii", "replace").splitlines()[-1:] or [f"it ends with {done.returncode}"]
+        said = f"doesn't judge the station within {JUDGED:.0f} s"
+        raise Fault(f"the program {program} {said}") from error
+    said = done.stdout.decode("ascii", "replace")
+    last = said.splitlines()[-1:] or [f"it ends with {done.returncode}"]
     if done.returncode != 0:
-        why = reason(done.stderr).removeprefix(f"the station file ({settings.station}): ") or "the program refuses it"
-        raise Fault(f"{settings.station}: {why} ({last[0]})", REFUSED)
+        why = reason(done.stderr).removeprefix(f"the station file ({station}): ")
+        raise Fault(f"{station}: {why or 'the program refuses it'} ({last[0]})", REFUSED)
     if last != ["status 0"]:
-        raise Fault(f"the program {settings.program} isn't radio_ntpd: it judged the station without a status", REFUSED)
+        why = "it judged the station without a status"
+        raise Fault(f"the program {program} isn't radio_ntpd: {why}", REFUSED)

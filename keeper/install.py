@@ -1,161 +1,195 @@
 """`install`: the keeper as a service. Without `--do` it only says what it would do."""
 
-import argparse
+import grp
 import os
-import pathlib
+import runpy
+import shutil
+import subprocess
+from collections.abc import Callable, Iterator
+from functools import partial
+from pathlib import Path
 
-from keeper.config import built_program
-from keeper.steps import Step, command, groups_for, has_user, is_of_group, keep_file, make_folder, put_file, put_folder, put_link, remove
-from keeper.words import DONE, Fault, Parser
+from keeper.chosen_file import BUILT, built_program
+from keeper.whole_files import LINK, Tree, file_at, has_tree, put_file, put_folder
+from keeper.errors import DONE, Fault, Parser
 
+Step = tuple[str, Callable[[], object]]  # what is done, and what does it
 USER = "radio_ntpd"
-GROUPS = ("gpio", "dialout")
 HOME = "/var/lib/radio_ntpd"
 SETTINGS = "/etc/radio_ntpd"
+PAGES = ("radio_keeper.1", "radio_ntpd.toml.5", "radio_ntpd.8")
+UNITS = ("radio_ntpd.socket", "radio_ntpd.service")
 # Of tools/ those for users. A picture of a day works pages out by the model that the checks have.
-TOOLS = ("entry_times.py", "journal_text.py", "plot_journal.py", "plots.py", "refused_output.py", "summary.sh", "svg_chart.py")
+TOOLS = ("entry_times.py", "journal_text.py", "plot_journal.py", "plots.py", "refused_output.py",
+         "summary.sh", "svg_chart.py")
 MODEL = ("__init__.py", "entry.py", "figures.py", "notes.py", "page.py", "selection.py", "units.py")
-PAGES = {"radio_ntpd.8": "man8", "radio_keeper.1": "man1", "radio_ntpd.toml.5": "man5"}
-TOP = pathlib.Path(__file__).resolve().parent.parent
+LIMIT = 60.0  # for a command of the host, in seconds
+TOP = Path(__file__).resolve().parent.parent
+AGE = TOP / "build/built_program.py"  # says whether a checkout's program is of its sources
 
 
 def parser() -> Parser:
-    words = Parser(prog="radio_keeper install", description="Installs program, keeper, pages and unit. Says what it would do; --do does it.")
+    words = Parser(prog="radio_keeper install", description="Installs program, keeper, pages and"
+                   " units. Says what it would do; --do does it.")
     words.add_argument("--do", action="store_true", help="do it")
-    words.add_argument("--remove", action="store_true", help=f"take it all away again, but for {SETTINGS} and {HOME}")
-    words.add_argument("--root", default="/", metavar="DIR", help="put the files below DIR, and make no user and start nothing: for packages")
-    words.add_argument("--prefix", default="/usr/local", help="where programs and pages go (/usr/local)")
-    words.add_argument("--program", metavar="FILE", help="the built program, where it isn't in this folder")
+    words.add_argument("--remove", action="store_true",
+                       help=f"take it all away again, but for {SETTINGS} and {HOME}")
+    words.add_argument("--root", default="/", metavar="DIR", help="put the files below DIR, and"
+                       " make no user and start nothing: for packages")
+    words.add_argument("--prefix", default="/usr/local",
+                       help="where programs and pages go (/usr/local)")
+    words.add_argument("--program", metavar="FILE",
+                       help="the built program, where it isn't in this folder")
     return words
 
 
 class Places:
-    """Where each part goes."""
+    """Where each part goes: `files` with their sources, `links` with what they lead to, and the
+    examples for the operator."""
 
     def __init__(self, root: str, prefix: str) -> None:
-        self.root, self.prefix = root, prefix.rstrip("/")
-        self.library = self.below(f"{self.prefix}/lib/radio_ntpd")
-        self.unit = self.below("/lib/systemd/system/radio_ntpd.service" if self.prefix == "/usr" else "/etc/systemd/system/radio_ntpd.service")
-        self.links = {
-            self.below(f"{self.prefix}/sbin/radio_ntpd"): "../lib/radio_ntpd/bin/radio_ntpd",
-            self.below(f"{self.prefix}/bin/radio_keeper"): "../lib/radio_ntpd/radio_keeper",
-        }
-        self.pages = {name: self.below(f"{self.prefix}/share/man/{section}/{name}") for name, section in PAGES.items()}
-        self.settings = self.below(SETTINGS)
+        self.prefix = prefix.rstrip("/")
+        below = root + self.prefix
+        system = f"{below}/lib" if self.prefix == "/usr" else f"{root}/etc"
+        self.library = f"{below}/lib/radio_ntpd"
+        self.links = {f"{below}/sbin/radio_ntpd": "../lib/radio_ntpd/bin/radio_ntpd",
+                      f"{below}/bin/radio_keeper": "../lib/radio_ntpd/radio_keeper"}
+        self.units = {f"{system}/systemd/system/{name}": f"packaging/{name}" for name in UNITS}
+        self.users = f"{system}/sysusers.d/{USER}.conf"
+        self.modes = f"{system}/tmpfiles.d/{USER}.conf"
+        pages = {f"{below}/share/man/man{name[-1]}/{name}": f"docs/{name}" for name in PAGES}
+        self.files = {**self.units, self.users: "packaging/radio_ntpd.sysusers",
+                      self.modes: "packaging/radio_ntpd.tmpfiles", **pages}
+        self.settings = root + SETTINGS
+        self.examples = {f"{self.settings}/{name}": f"packaging/{name}"
+                         for name in ("keeper.toml", "station.toml")}
 
-    def below(self, path: str) -> str:
-        return os.path.join(self.root, path.lstrip("/"))
-
-
-def newer_source(program: pathlib.Path, top: pathlib.Path = TOP) -> pathlib.Path | None:
-    """A source of this checkout that is newer than the program built in it; None where the program isn't built here."""
-    if program.resolve() != (top / "crates/radio_ntpd/out/radio_ntpd").resolve():
-        return None
-    built = program.stat().st_mtime
-    sources = (one for one in (top / "crates").rglob("*.rt") if not any(part == "out" or part.endswith("_tests") for part in one.relative_to(top).parts))
-    return next((one for one in (top / "crates.txt", *sources) if one.stat().st_mtime > built), None)
+    def adapted(self, source: str) -> bytes:
+        """A file of the sources with the prefix put in. Raises OSError."""
+        return (TOP / source).read_bytes().replace(b"@PREFIX@", self.prefix.encode())
 
 
 def scripts(folder: str) -> list[str]:
     """The files of a folder of the sources that are installed: no tests, no hidden ones."""
-    return sorted(one.name for one in (TOP / folder).iterdir() if one.is_file() and not one.name.startswith((".", "test_")))
+    found = (one.relative_to(TOP) for one in (TOP / folder).rglob("*") if one.is_file())
+    left_out = (".", "test_", "__pycache__")
+    return sorted(str(one) for one in found if one.parts[1] != "tests"
+                  and not any(part.startswith(left_out) for part in one.parts))
 
 
-def adapted(path: pathlib.Path, prefix: str) -> bytes:
-    """A file of the sources with the prefix put in."""
-    return path.read_bytes().replace(b"@PREFIX@", prefix.encode())
+def library(program: str) -> Tree:
+    """The folder of the program and the keeper. Raises OSError."""
+    names = ["radio_keeper", *scripts("keeper"), *scripts("feeders")]
+    names += [f"tools/{name}" for name in TOOLS] + [f"lab/model/{name}" for name in MODEL]
+    tree = {name: ((TOP / name).read_bytes(), 0o755 if os.access(TOP / name, os.X_OK) else 0o644)
+            for name in names}
+    return {"bin/radio_ntpd": (Path(program).read_bytes(), 0o755), **tree}
 
 
-def steps(places: Places, program: str) -> list[Step]:
-    """Files alone, in their order."""
-    found = [make_folder(places.library), make_folder(f"{places.library}/bin")]
-    found += [put_file(pathlib.Path(program).read_bytes(), f"{places.library}/bin/radio_ntpd", 0o755), put_file((TOP / "radio_keeper").read_bytes(), f"{places.library}/radio_keeper", 0o755)]
-    folders = {"keeper": scripts("keeper"), "feeders": scripts("feeders"), "tools": list(TOOLS), "checks/model": list(MODEL)}
-    found += [put_folder(str(TOP / folder), f"{places.library}/{folder}", names) for folder, names in folders.items()]
-    found += [put_link(target, path) for path, target in places.links.items()]
-    found += [put_file((TOP / "docs" / name).read_bytes(), path, 0o644) for name, path in places.pages.items()]
-    found.append(put_file(adapted(TOP / "packaging/radio_ntpd.service", places.prefix), places.unit, 0o644))
-    found.append(keep_file(adapted(TOP / "packaging/keeper.toml", places.prefix), f"{places.settings}/keeper.toml", 0o640))
-    found.append(keep_file((TOP / "packaging/station.toml").read_bytes(), f"{places.settings}/station.toml", 0o640))
-    return found
+def file_steps(places: Places, program: str) -> Iterator[Step]:
+    """What is to be written, in order. Raises OSError."""
+    tree = library(program)
+    if not has_tree(places.library, tree):
+        what = f"put {len(tree)} files into {places.library}"
+        yield what, partial(put_folder, places.library, tree)
+    files = {path: (target.encode(), LINK) for path, target in places.links.items()}
+    files |= {path: (places.adapted(source), 0o644) for path, source in places.files.items()}
+    for path, (text, mode) in files.items():
+        if file_at(path) != (text, mode):
+            yield f"write {path}", partial(put_file, path, text, mode)
+    for path, source in places.examples.items():
+        if not os.path.lexists(path):
+            what = f"write an example {path}, to be changed by you"
+            yield what, partial(put_file, path, places.adapted(source), 0o640)
 
 
-def join_group(group: str) -> Step:
-    text = f"put {USER} into the group {group}, whose devices it then may read"
-    return Step(text, lambda: True, lambda: command("usermod", "-aG", group, USER))
+def command(*words: str) -> None:
+    """Runs a command of the host, whose errors go to standard error. Raises Fault where it fails,
+    and OSError where it isn't there."""
+    try:
+        status = subprocess.run(words, stdin=subprocess.DEVNULL, timeout=LIMIT).returncode
+    except subprocess.TimeoutExpired as error:
+        raise Fault(f"`{' '.join(words)}` isn't over after {LIMIT:.0f} s") from error
+    if status != 0:
+        raise Fault(f"`{' '.join(words)}` ended with {status}")
 
 
-def let_read(path: str) -> Step:
-    """The service's group may read a file of settings, and nobody else: it may have keys, or a command with a password."""
-    text = f"let the group {USER} read {path}, which may have what isn't for everybody"
-    return Step(text, lambda: not is_of_group(path, USER), lambda: command("chgrp", USER, path))
+def host_steps(places: Places, is_new: bool) -> Iterator[Step]:
+    """The user and its groups, and what systemd has to know. `is_new`: a file is written."""
+    yield f"make the system user {USER}", partial(command, "systemd-sysusers", places.users)
+    if any(group.gr_name == "gpio" for group in grp.getgrall()):
+        what = f"put {USER} into the group gpio, whose devices it then may read"
+        yield what, partial(command, "usermod", "-aG", "gpio", USER)
+    what = f"let the group {USER} read {places.settings}, which may have what isn't for everybody"
+    yield what, partial(command, "systemd-tmpfiles", "--create", places.modes)
+    yield from systemd_step("have systemd read its units anew", "daemon-reload")
+    if is_new:
+        yield from systemd_step("start the service again, if it runs", "try-restart", USER)
 
 
-def host_steps(places: Places, is_new: bool) -> list[Step]:
-    """The user and its groups, and what systemd has to know; not done below another root. `is_new`: whether a file is written."""
-    groups = groups_for(USER, GROUPS)
-    found = [Step(f"make the system user {USER}", lambda: not has_user(USER), lambda: command("useradd", "--system", "--user-group", "--home-dir", HOME, "--shell", "/usr/sbin/nologin", USER))]
-    found += [join_group(one) for one in groups]
-    found += [let_read(f"{places.settings}/{name}") for name in ("keeper.toml", "station.toml")]
+def systemd_step(what: str, *words: str) -> Iterator[Step]:
+    """What systemd has to do, where it is the host's."""
     if os.path.isdir("/run/systemd/system"):
-        found.append(Step("have systemd read its units anew", lambda: True, lambda: command("systemctl", "daemon-reload")))
-        found.append(Step("start the service again, if it runs", lambda: is_new, lambda: command("systemctl", "try-restart", USER)))
-    return found
+        yield what, partial(command, "systemctl", *words)
 
 
-def removing(places: Places, here: bool) -> list[Step]:
-    """All of it again, but for what is the operator's: settings, journals, logs, the user that owns them."""
-    found = []
-    if here and os.path.isdir("/run/systemd/system"):
-        found.append(Step("stop the service", lambda: os.path.exists(places.unit), lambda: command("systemctl", "disable", "--now", "radio_ntpd")))
-    found += [remove(path) for path in (places.unit, *places.links, *places.pages.values(), places.library)]
-    if here and os.path.isdir("/run/systemd/system"):
-        found.append(Step("have systemd read its units anew", lambda: True, lambda: command("systemctl", "daemon-reload")))
-    return found
+def removing(places: Places, here: bool) -> Iterator[Step]:
+    """All of it again, but for what is the operator's: settings, journals, logs, their user."""
+    if here and any(map(os.path.exists, places.units)):
+        yield from systemd_step("stop the service", "disable", "--now", *UNITS)
+    for path in (*places.files, *places.links):
+        if os.path.lexists(path):
+            yield f"remove {path}", partial(os.unlink, path)
+    if os.path.lexists(places.library):
+        yield f"remove {places.library}", partial(shutil.rmtree, places.library)
+    if here:
+        yield from systemd_step("have systemd read its units anew", "daemon-reload")
+
+
+def named_program(named: str | None) -> str:
+    """The program that is to be installed. Raises Fault where it isn't there, and where it is this
+    checkout's and older than its sources."""
+    program = named or built_program()
+    if not os.access(program, os.X_OK):
+        raise Fault(f"there is no built program {program}: build it, or name it with --program")
+    if not named and os.path.realpath(program) == os.path.realpath(TOP / BUILT[1]):
+        built = runpy.run_path(str(AGE))
+        source = built["newer_source"](TOP)
+        if source and not built["is_of_its_sources"](TOP):
+            raise Fault(f"the program is older than {source}: run ./radio_ntpd once, which builds"
+                        " it again where that is needed, or name a program with --program")
+    return program
+
+
+def next_words(places: Places, done: bool) -> str:
+    if not done:
+        return "nothing was done; --do does it"
+    return (f"next: set {places.settings}/keeper.toml and station.toml, then `radio_keeper check`,"
+            " then `systemctl enable --now radio_ntpd`, then `radio_keeper status`")
 
 
 def main(given: list[str]) -> int:
     asked = parser().parse_args(given)
     if not asked.prefix.startswith("/"):
         raise Fault("--prefix is no whole path")
+    root = os.path.abspath(asked.root).rstrip("/")
     here = os.path.realpath(asked.root) == "/"
     if asked.do and here and os.geteuid() != 0:
         raise Fault("only root can do that; without --do it says what it would do")
-    # The service's user has to enter each folder that is made.
-    before = os.umask(0o022)
+    places = Places(root, asked.prefix)
+    if asked.remove:
+        steps = list(removing(places, here))
+    else:
+        steps = list(file_steps(places, named_program(asked.program)))
+        steps += host_steps(places, bool(steps)) if here else []
+    before = os.umask(0o022)  # the service's user has to enter each folder that is made
     try:
-        install(asked, Places(os.path.abspath(asked.root), asked.prefix), here)
+        for text, act in steps:
+            print(f"{'' if asked.do else 'would '}{text}", flush=True)
+            if asked.do:
+                act()
     finally:
         os.umask(before)
-    return DONE
-
-
-def install(asked: argparse.Namespace, places: Places, here: bool) -> None:
-    """Does what was asked for, or says what it would do. `here`: on this host, and not below another root."""
-    if asked.remove:
-        todo = removing(places, here)
-    else:
-        program = asked.program or built_program()
-        if not os.access(program, os.X_OK):
-            raise Fault(f"there is no built program {program}: build it, or name it with --program")
-        if not asked.program and (source := newer_source(pathlib.Path(program))):
-            raise Fault(f"the program is older than {source}: run ./radio_ntpd once, which builds it again where that is needed, or name a program with --program")
-        todo = steps(places, program)
-        if here:
-            todo += host_steps(places, any(step.needed() for step in todo))
-    for step in todo:
-        if step.needed():
-            print(f"{'' if asked.do else 'would '}{step.text}", flush=True)
-            if asked.do:
-                step.do()
     if not asked.remove:
         print(next_words(places, asked.do))
-
-
-def next_words(places: Places, done: bool) -> str:
-    if not done:
-        return "nothing was done; --do does it"
-    return (
-        f"next: set {places.settings}/keeper.toml and station.toml, then `radio_keeper check`,"
-        " then `systemctl enable --now radio_ntpd`, then `radio_keeper status`"
-    )
+    return DONE

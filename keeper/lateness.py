@@ -1,24 +1,25 @@
-"""How late a radio's marks come: minutes that `decode` believed, and what delay follows from them."""
+"""How late a radio's marks come: minutes that `decode` believed, and what delay follows."""
 
 import collections
 import statistics
 from dataclasses import dataclass
 
-from keeper.reception import EPOCH
-from keeper.rules import PLANS
+from keeper.ntp import EPOCH
+from keeper.reporter.rules import PLANS
 
-MINUTE = 60_000_000  # in microseconds
-KEPT = 20 * MINUTE  # marks that may belong to a minute that `decode` closes later; at the start all that is at hand comes at once
-WILD = 0.1  # a mark that lies so far off its second is none of it, in seconds
+MINUTE = 60_000_000  # (us)
+KEPT = 20 * MINUTE  # marks that may be of a minute that `decode` closes later
+WILD = 0.1  # a mark that lies so far off its second is none of it (s)
 LEAST = 5  # with fewer minutes nothing is said
-MOST_DELAY = 0.1  # the greatest delay of a station, in seconds
+MOST_DELAY = 0.1  # the greatest delay of a station (s)
 GROUPS = 3  # minutes are split into this number of parts by the widths of their marks
 
 
 @dataclass(frozen=True)
 class Minute:
-    """A minute that was believed. `at`: when it closed, by the host's clock (Unix s). `late`: how late its marks came by that clock, their
-    median (s). `closing`: the same of the closing mark alone (s). `width`: the median width of its shorter marks (s)."""
+    """A minute that was believed. `at`: when it closed, by the host's clock (Unix s). `late`: how
+    late its marks came by that clock, their median (s). `closing`: the same of the closing mark
+    alone (s). `width`: the median width of its shorter marks (s)."""
 
     at: float
     late: float
@@ -28,8 +29,9 @@ class Minute:
 
 @dataclass(frozen=True)
 class Result:
-    """`late`: how late the marks come, the median of the minutes (s); `error`: its standard error (s). `spread`: of closing marks, robust
-    standard deviation (s). `groups`: the width (s) and the lateness (s) of the weakest, middle and strongest third, empty where it doesn't wander."""
+    """`late`: how late the marks come, the median of the minutes (s); `error`: its standard error
+    (s). `spread`: of closing marks, robust standard deviation (s). `groups`: the width (s) and the
+    lateness (s) of the weakest, middle and strongest third, empty where it doesn't wander."""
 
     minutes: int
     late: float
@@ -39,7 +41,8 @@ class Result:
 
 
 class Minutes:
-    """Takes pulses and the lines of `decode`, and keeps the minutes. `shift` is what is to be added to the counter to have Unix seconds."""
+    """Takes pulses and the lines of `decode`, and keeps the minutes. `shift` is what is to be added
+    to the counter to have Unix seconds."""
 
     def __init__(self, shift: float) -> None:
         self.shift = shift
@@ -58,12 +61,14 @@ class Minutes:
             return
         close, second = int(words[1]), int(words[3]) - EPOCH
         marks = [one for one in self.pulses if close - MINUTE - 500_000 <= one[0] <= close]
-        late = [self._late(start, close, second) for start, _ in marks]
-        late = [one for one in late if abs(one - self._late(close, close, second)) < WILD]
+        closing = self._late(close, close, second)
+        late = [one for start, _ in marks
+                if abs((one := self._late(start, close, second)) - closing) < WILD]
         if late:
             widths = sorted(width for _, width in marks)
+            width = statistics.median(widths[:len(widths) // 2 + 1]) / 1e6
             at = close / 1e6 + self.shift
-            self.found.append(Minute(at, statistics.median(late), self._late(close, close, second), statistics.median(widths[: len(widths) // 2 + 1]) / 1e6))
+            self.found.append(Minute(at, statistics.median(late), closing, width))
 
     def _late(self, start: int, close: int, second: int) -> float:
         """How late a mark of the minute came that closed with this second."""
@@ -71,7 +76,8 @@ class Minutes:
 
 
 def deviation(values: list[float]) -> float:
-    """A standard deviation that single outliers don't move: 1.4826 times the median distance from the median."""
+    """A standard deviation that single outliers don't move: 1.4826 times the median distance from
+    the median."""
     middle = statistics.median(values)
     return 1.4826 * statistics.median(abs(one - middle) for one in values)
 
@@ -86,28 +92,37 @@ def result(minutes: list[Minute]) -> Result | None:
     if len(minutes) < LEAST:
         return None
     late = [one.late for one in minutes]
-    return Result(len(minutes), statistics.median(late), error_of(late), deviation([one.closing for one in minutes]), _groups(minutes))
+    spread = deviation([one.closing for one in minutes])
+    return Result(len(late), statistics.median(late), error_of(late), spread, _groups(minutes))
 
 
 def _groups(minutes: list[Minute]) -> list[tuple[float, float]]:
-    """The thirds by width, where the lateness of the outer ones differs by more than chance and by more than half a millisecond."""
+    """The thirds by width, where the lateness of the outer ones differs by more than chance and by
+    more than half a millisecond."""
     if len(minutes) < GROUPS * LEAST:
         return []
     ordered = sorted(minutes, key=lambda one: one.width)
     part = len(ordered) // GROUPS
-    thirds = [ordered[:part], ordered[part:-part], ordered[-part:]]
+    thirds = (ordered[:part], ordered[part:-part], ordered[-part:])
     late = [[one.late for one in third] for third in thirds]
-    apart = abs(statistics.median(late[0]) - statistics.median(late[-1]))
-    if apart < max(0.0005, 3 * (error_of(late[0]) ** 2 + error_of(late[-1]) ** 2) ** 0.5):
+    middles = [statistics.median(one) for one in late]
+    chance = 3 * (error_of(late[0]) ** 2 + error_of(late[-1]) ** 2) ** 0.5
+    if abs(middles[0] - middles[-1]) < max(0.0005, chance):
         return []
-    return [(statistics.median(one.width for one in third), statistics.median(said)) for third, said in zip(thirds, late)]
+    widths = [statistics.median(one.width for one in third) for third in thirds]
+    return list(zip(widths, middles))
 
 
 def sentences(found: Result, plan: str, now: int) -> list[str]:
-    """The result for a person; `now` is the delay that the station has, in microseconds."""
-    said = [f"the marks of {PLANS.get(plan, plan)} come {found.late * 1e3:.2f} ms late, within {found.error * 1e3:.2f} ms; a closing mark scatters by {found.spread * 1e3:.2f} ms"]
+    """The result for a person; `now` is the delay that the station has (us)."""
+    late, error, spread = (f"{one * 1e3:.2f} ms" for one in (found.late, found.error, found.spread))
+    said = [f"the marks of {PLANS.get(plan, plan)} come {late} late, within {error}; a closing "
+            f"mark scatters by {spread}"]
     if found.groups:
-        said.append("it wanders with the signal: " + ", ".join(f"{late * 1e3:.2f} ms with marks of {width * 1e3:.0f} ms" for width, late in found.groups))
+        wanders = (f"{late * 1e3:.2f} ms with marks of {width * 1e3:.0f} ms"
+                   for width, late in found.groups)
+        said.append(f"it wanders with the signal: {', '.join(wanders)}")
     if 0 <= found.late <= MOST_DELAY:
-        return said + [f"set in the station file: delay = {round(found.late * 1e6)} (it is {now})"]
-    return said + ["no delay fits, which is 0 to 100 ms: the reference is off, or the receiver's output is the other way round"]
+        return [*said, f"set in the station file: delay = {round(found.late * 1e6)} (it is {now})"]
+    why = "the reference is off, or the receiver's output is the other way round"
+    return [*said, f"no delay fits, which is 0 to 100 ms: {why}"]

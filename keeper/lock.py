@@ -3,33 +3,33 @@
 import errno
 import fcntl
 import os
-import time
 
-from keeper.words import Fault
+from keeper.supervisor.host import Host
+from keeper.errors import Fault
 
 NAME = "keeper.lock"
-TRIES, PAUSE = 10, 0.1  # `check` looks at it for an instant, in seconds
+TRIES, PAUSE = 10, 0.1  # `check` looks at it for an instant (s)
+FULL = (errno.ENOSPC, errno.EDQUOT, errno.EROFS)
 
 
-def take(folder: str) -> int:
+def take(host: Host, folder: str) -> int:
     """The lock's descriptor. The host gives it back when the keeper ends, however that is. Raises
     Fault where another keeper has it, and OSError."""
-    os.makedirs(folder, exist_ok=True)
-    path, how = os.path.join(folder, NAME), os.O_RDWR | os.O_CREAT | os.O_NOFOLLOW | os.O_CLOEXEC
+    path, how = os.path.join(folder, NAME), os.O_RDWR | os.O_CREAT | os.O_NOFOLLOW
     try:
-        descriptor = os.open(path, how, 0o600)
+        descriptor = host.open(path, how, 0o600)
     except OSError as error:
-        if error.errno not in (errno.ENOSPC, errno.EDQUOT, errno.EROFS):
+        if error.errno not in FULL:
             raise
         # On a disk that takes nothing clients are served all the same.
-        descriptor = os.open(folder, os.O_RDONLY | os.O_DIRECTORY | os.O_CLOEXEC)
+        descriptor = host.open(folder, os.O_RDONLY | os.O_DIRECTORY)
     for _ in range(TRIES):
         try:
-            fcntl.flock(descriptor, fcntl.LOCK_EX | fcntl.LOCK_NB)
+            host.lock(descriptor)
             return descriptor
         except BlockingIOError:
-            time.sleep(PAUSE)
-    os.close(descriptor)
+            host.wait([], PAUSE)
+    host.close(descriptor)
     raise Fault(f"another keeper has {folder}")
 
 

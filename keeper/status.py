@@ -1,33 +1,42 @@
 """`status` and `watch`: the state of a station for a person, for a program, for Nagios."""
 
+import contextlib
 import dataclasses
 import json
 import os
 import sys
 import time
 
-from keeper import faces, metrics, text
 from keeper.config import read
-from keeper.state import State, StateError, load
-from keeper.verdict import GONE, Level, judge, worst
-from keeper.words import DONE, UNKNOWN, Fault, Parser
+from keeper.durations import span
+from keeper.errors import DONE, UNKNOWN, Fault, Parser
+from keeper.reporter import metrics, overview
+from keeper.reporter.__main__ import STATE
+from keeper.reporter.health import GONE, Level, judge, summary, worst
+from keeper.reporter.state import State, StateError, load
+from keeper.reporter.station_state import Station
+from keeper.supervisor.reports import FACTS
 
-FOLDER = "/var/lib/radio_ntpd"
+FOLDERS = ["/run/radio_ntpd", "/var/lib/radio_ntpd"]
+STANDS = 30.0  # a reporter that has drawn nothing for so long stands still (s)
 FILES = ("keeper.toml", "/etc/radio_ntpd/keeper.toml")
 CLEAR = "\033[H\033[2J"
 
 
 def parser(command: str) -> Parser:
-    words = Parser(prog=f"radio_keeper {command}", description="Says how the station is, from the file that the keeper renews every ten seconds.")
-    words.add_argument("--config", metavar="FILE", help="the keeper's file, which names that folder (keeper.toml here or in /etc/radio_ntpd)")
-    words.add_argument("--folder", help="where the keeper's state is, in place of what its file says")
-    if command == "status":
-        form = words.add_mutually_exclusive_group()
-        form.add_argument("--json", action="store_true", help="the whole state as JSON")
-        form.add_argument("--nagios", action="store_true", help="one line, and the exit status 0, 1, 2 or 3 of a Nagios plugin")
-        form.add_argument("--prometheus", action="store_true", help="what the node exporter reads")
-    else:
-        words.add_argument("--every", type=float, default=2.0, metavar="SECONDS", help="how often it is redrawn, 0.2 to 3600 (2)")
+    words = Parser(prog=f"radio_keeper {command}", description="Says how the station is, from the "
+                   "file that the keeper renews every ten seconds.")
+    words.add_config()
+    words.add_argument("--folder", help="where the state is, in place of what that file says")
+    if command == "watch":
+        words.add_argument("--every", type=float, default=2.0, metavar="SECONDS",
+                           help="how often it is redrawn, 0.2 to 3600 (2)")
+        return words
+    form = words.add_mutually_exclusive_group()
+    form.add_argument("--json", action="store_true", help="the whole state as JSON")
+    form.add_argument("--nagios", action="store_true",
+                      help="one line, and the exit status 0, 1, 2 or 3 of a Nagios plugin")
+    form.add_argument("--prometheus", action="store_true", help="what the node exporter reads")
     return words
 
 
@@ -36,38 +45,59 @@ def main(given: list[str], command: str = "status") -> int:
     asked = words.parse_args(given)
     if command == "status" and asked.nagios:
         return nagios(asked.folder, asked.config)
-    path = os.path.join(asked.folder or folder_of(asked.config), faces.STATE)
+    folders = [asked.folder] if asked.folder else folders_of(asked.config)
     if command == "watch":
         if not 0.2 <= asked.every <= 3600:
             words.error("--every is 0.2 to 3600 seconds")
-        return watch(path, asked.every)
-    written, now = found(path), time.time()
+        return watch(folders, asked.every)
+    try:
+        written, now = last(folders), time.time()
+    except StateError as error:
+        said = "does the keeper run, and are --config and --folder right?"
+        raise Fault(f"{error}; {said}") from error
     state = current(written)
     if asked.json:
         print(json.dumps(written, default=vars, indent=1))
     elif asked.prometheus:
         sys.stdout.write(metrics.render(state, now))
     else:
-        sys.stdout.write(text.render(state, now, takes_blocks()))
+        sys.stdout.write(overview.render(state, now, takes_blocks()))
         return min(int(worst(judge(state, now))), int(Level.CRITICAL))
     return DONE
 
 
-def folder_of(config: str | None) -> str:
-    """The folder that a keeper's file names. The station file isn't read, so that nobody has to see its keys to see the state; who
-    may not read the installed keeper's file has the folder that it names as it is installed. Raises Fault."""
+def folders_of(config: str | None) -> list[str]:
+    """Where a state may be, by the keeper's file: the runtime folder and the state folder. The
+    station file isn't read, so that nobody has to see its keys to see the state; who may not read
+    the installed keeper's file has the folders that it names as it is installed. Raises Fault."""
     path = config or next((one for one in FILES if os.access(one, os.R_OK)), None)
     if path is None:
-        return FOLDER
-    return os.path.join(os.path.dirname(os.path.abspath(path)), str(read(path)[0].get("state", "state")))
+        return FOLDERS
+    values, base = read(path)[0], os.path.dirname(os.path.abspath(path))
+    folder = str(values.get("state", "state"))
+    return [os.path.join(base, one) for one in (str(values.get("runtime", folder)), folder)]
 
 
-def found(path: str) -> State:
-    """The state; a Fault where there is none."""
+def last(folders: list[str]) -> State:
+    """The state of the first folder that has one. Where the reporter stands still, what the
+    supervisor itself wrote last is put in. Raises StateError."""
+    folder = next((one for one in folders if os.path.exists(os.path.join(one, STATE))), folders[0])
+    path, facts = os.path.join(folder, FACTS), {}
+    with contextlib.suppress(OSError, ValueError), open(path, encoding="utf-8") as file:
+        facts = json.load(file)
     try:
-        return load(path)
-    except StateError as error:
-        raise Fault(f"{error}; does the keeper run, and are --config and --folder right?") from error
+        state = load(os.path.join(folder, STATE))
+    except StateError:
+        if not facts:
+            raise
+        state = State()
+    late = facts["at"] - state.written if facts else 0.0
+    if late > STANDS:
+        station = Station(state)
+        station.take(facts)
+        station.state.notes.append(f"the reporter has drawn nothing for {span(late)}")
+        state, state.written = station.state, facts["at"]
+    return state
 
 
 def is_there(process: int) -> bool:
@@ -88,12 +118,17 @@ def current(written: State) -> State:
 
 
 def nagios(folder: str | None, config: str | None) -> int:
-    """One line on standard output, whatever is wrong."""
+    """One line on standard output, whatever is wrong, with its figures after a bar."""
     try:
-        line, level = text.nagios(current(load(os.path.join(folder or folder_of(config), faces.STATE))), time.time())
+        state, now = current(last([folder] if folder else folders_of(config))), time.time()
+        level, said = worst(judge(state, now)), summary(state, now)
+        figures = [f"root_dispersion_{one.port}={one.root_dispersion:.6f}s;;{state.bound:g}"
+                   for one in state.links]
+        figures += [f"verdicts_{one.number}={one.verdicts_hour};;;0;60" for one in state.radios]
+        said += f" | {' '.join(figures)}" if figures else ""
     except (StateError, Fault) as error:
-        line, level = f"RADIO_NTPD UNKNOWN: {str(error).replace('|', '/')}", Level(UNKNOWN)
-    print(line)
+        level, said = Level(UNKNOWN), str(error).replace("|", "/")
+    print(f"RADIO_NTPD {level.name}: {said}")
     return int(level)
 
 
@@ -102,12 +137,12 @@ def takes_blocks() -> bool:
     return (sys.stdout.encoding or "").lower().replace("-", "") == "utf8"
 
 
-def watch(path: str, every: float) -> int:
+def watch(folders: list[str], every: float) -> int:
     """Draws the state until it is interrupted."""
     clear = CLEAR if sys.stdout.isatty() else ""
     while True:
         try:
-            said = text.render(current(load(path)), time.time(), takes_blocks())
+            said = overview.render(current(last(folders)), time.time(), takes_blocks())
         except StateError as error:
             said = f"{error}\n"
         sys.stdout.write(clear + said)

@@ -1,49 +1,35 @@
 #!/bin/sh
-# Builds a Debian package of a built program, the keeper, the feeders, the tools and the pages, with dpkg-deb alone.
+# Builds the Debian package of a built program, the keeper, the feeders, the tools and the pages. Needs debhelper and dh-python.
 #
-#     packaging/build_deb.sh [FOLDER]
+#     packaging/build_deb.sh [FOLDER [ARCHITECTURE]]
 #
-# writes FOLDER/radio-ntpd_VERSION_ARCHITECTURE.deb (FOLDER is the working folder where it isn't given) and prints its name. The program is
-# that of this checkout; RADIO_NTPD names another one.
+# writes FOLDER/radio-ntpd_VERSION_ARCHITECTURE.deb (without FOLDER into the working folder) and prints its name. The program is that of this
+# checkout; RADIO_NTPD names another one. ARCHITECTURE is amd64, or arm64: then the package has the same program with this host's C library, and
+# runs it by QEMU. The same program, sources and C library give the same bytes, wherever they lie.
 set -eu
 folder=$(cd "${1:-.}" && pwd)
+architecture=${2:-amd64}
 cd "$(dirname "$0")/.."
+for command in dpkg-buildpackage dh dh_python3; do
+    command -v "$command" > /dev/null || { echo "build_deb: there is no $command: apt install debhelper dh-python" >&2; exit 1; }
+done
 program=${RADIO_NTPD:-crates/radio_ntpd/out/radio_ntpd}
-[ -x "$program" ] || { echo "build_deb: there is no built program $program" >&2; exit 1; }
-version=$(sed -n 's/^VERSION = "\(.*\)"$/\1/p' keeper/__init__.py)
-architecture=$(dpkg --print-architecture)
 work=$(mktemp -d)
 trap 'rm -rf "$work"' EXIT
 trap 'exit 1' INT TERM
-package="$work/package"
-mkdir -p "$package/DEBIAN"
-umask 022
-# Without --program it refuses one that is older than its sources.
-./radio_keeper install --do --root "$package" --prefix /usr ${RADIO_NTPD:+--program "$RADIO_NTPD"} > "$work/installed"
+# It refuses a program that isn't there, and without --program one that is older than its sources.
+./radio_keeper install --root "$work/none" ${RADIO_NTPD:+--program "$RADIO_NTPD"} > "$work/log"
 
-# postinst puts the examples where settings go, unless there are some: dpkg would ask about a conffile that another installation left.
-mkdir -p "$package/usr/share/radio_ntpd"
-mv "$package/etc/radio_ntpd/keeper.toml" "$package/etc/radio_ntpd/station.toml" "$package/usr/share/radio_ntpd/"
-chmod 644 "$package/usr/share/radio_ntpd/"*
-rmdir "$package/etc/radio_ntpd" "$package/etc"
-
-# Pages are packed as Debian's policy has it, without a date, so that the same sources give the same package.
-find "$package/usr/share/man" -type f -exec gzip -9 -n {} +
-mkdir -p "$package/usr/share/doc/radio-ntpd"
-gzip -9 -n -c packaging/debian/changelog > "$package/usr/share/doc/radio-ntpd/changelog.gz"
-cp packaging/debian/copyright "$package/usr/share/doc/radio-ntpd/"
-# The program is packed as it was built and proved, with its symbols. All pages lie as they do here, since they link to each other.
-cp README.md CHANGELOG.md CONTRIBUTING.md "$package/usr/share/doc/radio-ntpd/"
-mkdir "$package/usr/share/doc/radio-ntpd/docs"
-cp -r docs/*.md docs/pictures "$package/usr/share/doc/radio-ntpd/docs/"
-
-size=$(du -sk "$package" | cut -f 1)
-sed -e "s/@VERSION@/$version/; s/@ARCHITECTURE@/$architecture/; s/@SIZE@/$size/" packaging/debian/control > "$package/DEBIAN/control"
-for script in postinst prerm postrm; do
-    install -m 755 "packaging/debian/$script" "$package/DEBIAN/$script"
+# debhelper wants the folder debian at the top, and writes into it and beside it.
+sources="$work/radio-ntpd"
+mkdir -p "$sources/bin"
+cp -R --parents radio_keeper keeper feeders tools lab/model packaging docs README.md CHANGELOG.md CONTRIBUTING.md "$sources"
+cp "$program" "$sources/bin/radio_ntpd"
+mv "$sources/packaging/debian" "$sources/debian"
+cd "$sources"
+# Nothing is compiled, so no compiler is asked for.
+dpkg-buildpackage --build=binary --no-sign --no-check-builddeps --host-arch "$architecture" > "$work/log" 2>&1 || { tail -n 20 "$work/log" >&2; exit 1; }
+for package in "$work"/*.deb; do
+    mv "$package" "$folder"
+    echo "$folder/$(basename "$package")"
 done
-(cd "$package" && find . -type f ! -path './DEBIAN/*' -printf '%P\n' | LC_ALL=C sort | xargs md5sum > DEBIAN/md5sums)
-name="radio-ntpd_${version}_$architecture.deb"
-dpkg-deb --root-owner-group --build "$package" "$work/$name" > "$work/built"
-mv "$work/$name" "$folder/$name"
-echo "$folder/$name"

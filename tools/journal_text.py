@@ -1,6 +1,7 @@
 """Journals as `serve`, `replay`, `migrate` or `decode` writes them, read for looking at: entries, offsets, the names of feeds."""
 
 import collections
+import importlib
 import ipaddress
 import pathlib
 import statistics
@@ -157,17 +158,16 @@ def name_of(station: Station, feed: int) -> str:
     return station.names[feed] if feed < len(station.names) else f"feed {feed}"
 
 
-def page_model() -> ModuleType:
-    """The model of a page (docs/PAGE.md), which the checks have too."""
-    folder = str(pathlib.Path(__file__).resolve().parent.parent / "checks")
-    sys.path.insert(0, folder)
+def beside(name: str) -> ModuleType:
+    """A module of a folder that stands beside this one, here and where it is installed."""
+    top = str(pathlib.Path(__file__).resolve().parent.parent)
+    if top not in sys.path:
+        sys.path.append(top)
     try:
-        from model import page
+        return importlib.import_module(name)
     except ImportError as fault:
-        raise FileNotFoundError(2, "--day needs it, and it isn't there", f"{folder}/model/page.py") from fault
-    finally:
-        sys.path.remove(folder)
-    return page
+        path = f"{top}/{name.replace('.', '/')}.py"
+        raise FileNotFoundError(2, "the picture needs it, and it isn't there", path) from fault
 
 
 class Moment(NamedTuple):
@@ -186,7 +186,7 @@ def numbers_of(entry: Entry) -> tuple[int, ...]:
 
 def reported_each_minute(run: Run, station: Station) -> list[Moment]:
     """What clients were given at each minute of a run, by the pages of its entries up to there."""
-    model = page_model()
+    model = beside("lab.model.page")  # docs/PAGE.md
     moments: list[Moment] = []
     entries = sorted((entry for entry in run.entries if entry.feed < len(station.kinds)), key=lambda entry: entry.at)
     # What is no sample and no word of a radio changes no field but the page's length and moment.

@@ -27,6 +27,7 @@ from journal_text import (  # noqa: E402
     Entry,
     Run,
     Station,
+    beside,
     line_through,
     read_entry,
     read_journal,
@@ -36,7 +37,6 @@ from journal_text import (  # noqa: E402
     station_of,
 )
 
-FEEDERS = pathlib.Path(__file__).resolve().parent.parent / "feeders"
 MOST = 500.0  # the most that a phase is off, in milliseconds
 LONGEST = 19  # digits of a number of a log
 # What a picture's name may not end in, since each is written as SVG.
@@ -53,10 +53,8 @@ class NoStation(Exception):
 
 def phases_of(log: str) -> list[tuple[int, float, float]]:
     """The starts of a log's seconds: moments, and by how many milliseconds each is off the log's line, as it came and steady."""
-    sys.path.insert(0, str(FEEDERS))
-    from steady import Steady, around  # the feeder stands in a folder of its own
-
-    steady = Steady()
+    feeder = beside("feeders.steady")
+    steady, around = feeder.Steady(), feeder.around
     starts: list[tuple[int, int]] = []
     with open(log, encoding="ascii", errors="replace", newline="\n") as file:
         for line in file:

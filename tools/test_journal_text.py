@@ -4,21 +4,16 @@
     tools/test_journal_text.py
 """
 
-import pathlib
 import random
-import sys
 import tempfile
 import unittest
 
-HERE = pathlib.Path(__file__).resolve().parent
-sys.path.insert(0, str(HERE))
-
-from journal_text import (  # noqa: E402
+from journal_text import (
     Station,
+    beside,
     due,
     line_through,
     numbers_of,
-    page_model,
     read_entry,
     read_journal,
     read_station,
@@ -27,7 +22,7 @@ from journal_text import (  # noqa: E402
     station_of,
     unix_of,
 )
-from made_entries import NOON, NOON_UNIX, verdicts  # noqa: E402
+from made_entries import NOON, NOON_UNIX, verdicts
 
 STATION = """\
 bound = 50
@@ -149,7 +144,7 @@ class Reading(unittest.TestCase):
 
     def test_the_page_of_the_tools_is_that_of_the_page_that_is_worked_out(self):
         """The journal of docs/PAGE.md, section 10: a minute before the first verdict, and four of them."""
-        model = page_model()
+        model = beside("lab.model.page")
         journal = model.Journal(["dcf"], 1000)
         entries = [read_entry(f"0 62000000 lone {NOON}")] + verdicts_at(62, range(1, 5))
         for entry in entries:
@@ -159,5 +154,4 @@ class Reading(unittest.TestCase):
 
 
 if __name__ == "__main__":
-    sys.dont_write_bytecode = True
     unittest.main()

@@ -6,7 +6,6 @@
 
 import os
 import pathlib
-import shutil
 import subprocess
 import sys
 import tempfile
@@ -14,10 +13,8 @@ import unittest
 import xml.etree.ElementTree
 
 HERE = pathlib.Path(__file__).resolve().parent
-sys.path.insert(0, str(HERE))
-
-from made_entries import NOON, verdicts  # noqa: E402
-from plot_journal import phases_of  # noqa: E402
+from made_entries import NOON, verdicts
+from plot_journal import phases_of
 
 
 class Pictures(unittest.TestCase):
@@ -107,20 +104,15 @@ class Pictures(unittest.TestCase):
                 self.assertFalse(name.exists())
 
     def test_an_installed_one_draws_a_day_and_leaves_nothing_behind(self):
-        """As packages have it: these files alone, and what it imports is compiled nowhere."""
-        sys.path.insert(0, str(HERE.parent))
-        from keeper.install import MODEL, TOOLS
-
+        """What `radio_keeper install` puts there, and what it imports is compiled nowhere."""
         with tempfile.TemporaryDirectory() as folder:
             top = pathlib.Path(folder)
-            for part, names in (("tools", TOOLS), ("checks/model", MODEL)):
-                (top / part).mkdir(parents=True)
-                for name in names:
-                    shutil.copy(HERE.parent / part / name, top / part / name)
+            install = [HERE.parent / "radio_keeper", "install", "--do", "--root", top, "--prefix", "/usr", "--program", "/bin/true"]
+            subprocess.run(install, check=True, stdout=subprocess.DEVNULL, timeout=60)
             journal = top / "journal"
             journal.write_text("".join(f"0 {entry.at} verdict {' '.join(entry.fields)}\n" for entry in verdicts(range(60))))
             before = sorted(top.rglob("*"))
-            words = [sys.executable, top / "tools/plot_journal.py", "--day", "/dev/stdout", journal]
+            words = [sys.executable, top / "usr/lib/radio_ntpd/tools/plot_journal.py", "--day", "/dev/stdout", journal]
             done = subprocess.run(words, capture_output=True, timeout=300, env={"PATH": os.environ["PATH"]})
             self.assertEqual((done.returncode, done.stderr), (0, b""))
             self.assertIn(b"root dispersion", done.stdout)
@@ -128,5 +120,4 @@ class Pictures(unittest.TestCase):
 
 
 if __name__ == "__main__":
-    sys.dont_write_bytecode = True
     unittest.main()

@@ -5,18 +5,13 @@
 """
 
 import math
-import pathlib
 import random
-import sys
 import unittest
 import xml.etree.ElementTree
 
-HERE = pathlib.Path(__file__).resolve().parent
-sys.path.insert(0, str(HERE))
-
-from journal_text import read_entry, run_of, station_of  # noqa: E402
-from made_entries import NOON, NOON_UNIX, verdicts  # noqa: E402
-from plots import (  # noqa: E402
+from journal_text import read_entry, run_of, station_of
+from made_entries import NOON, NOON_UNIX, verdicts
+from plots import (
     RED_TO_GREEN,
     bars_of,
     begin_of,
@@ -28,7 +23,7 @@ from plots import (  # noqa: E402
     shade,
     spread_of,
 )
-from svg_chart import Band, Bar, Line, Panel, log_axis, picture, round_axis, utc_axis  # noqa: E402
+from svg_chart import Band, Bar, Line, Panel, log_axis, picture, round_axis, utc_axis
 
 SVG = "{http://www.w3.org/2000/svg}"
 
@@ -167,5 +162,4 @@ class Charts(unittest.TestCase):
 
 
 if __name__ == "__main__":
-    sys.dont_write_bytecode = True
     unittest.main()

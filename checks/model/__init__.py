@@ -1,4 +1,1 @@
-"""A second reading of what the program computes: each module writes one part of the pages in docs/ down again, over
-whole lists, and shares no code with the program. What a line's form is comes from checks/grammar, which is such a
-reading too.
-"""
+"""The program compared with the model, lab/model: the cases, what they have to meet, and the runs."""

@@ -1,7 +1,7 @@
 """What the cases have to meet: each rule, each refusal, each outcome, by the names with which the modules note them.
 """
 
-from .receiver import PLANS
+from lab.model.receiver import PLANS
 
 _PAGE = (
     "a difference above 256 s",

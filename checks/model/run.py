@@ -9,10 +9,10 @@ import subprocess
 import sys
 from typing import NamedTuple
 
-from . import notes
+from lab.model import notes
 from .cases.case import Case
 from .cases.kinds import KINDS, case
-from .commands import Ended
+from lab.model.commands import Ended
 
 # How long a run may take, in seconds.
 LONGEST = 120
@@ -79,7 +79,7 @@ def _work(program: str, folder: pathlib.Path, tasks, directed: dict[str, list[Ca
         met.update(found)
         done += 1
         if why:
-            again = f"python3 -B checks/model.py --one {name} {number} {seed}"
+            again = f"python3 -B -m checks.model --one {name} {number} {seed}"
             wrong.append(f"{name} {number}, {one.name}: {why}\n  again: {again}")
     told.put(Outcome(done, met, wrong))
 
@@ -114,4 +114,4 @@ def _next(told, pool) -> Outcome:
             return told.get(timeout=1)
         except queue.Empty:
             if any(one.exitcode for one in pool):
-                sys.exit("model.py: a worker fell")
+                sys.exit("model: a worker fell")

@@ -5,7 +5,7 @@ import tempfile
 import time
 import unittest
 
-from keeper.decoder import PAUSE, Decoder
+from keeper.reporter.decoder import PAUSE, Decoder
 
 ECHO = """#!/bin/sh
 echo "$@" >> "$0.words"
@@ -77,10 +77,12 @@ class Decoders(unittest.TestCase):
     def test_its_end(self):
         decoder = self.decoder(DEAF)
         decoder.give(b"1 2\n", 100.0)
-        pid = decoder.child.pid
+        child, there = decoder.child, len(os.listdir("/proc/self/fd"))
         decoder.close()
+        self.assertEqual(child.returncode, -9, "it is waited for")
         with self.assertRaises(ProcessLookupError):
-            os.kill(pid, 0)
+            os.kill(child.pid, 0)
+        self.assertEqual(len(os.listdir("/proc/self/fd")), there - 2)
 
 
 if __name__ == "__main__":

@@ -11,8 +11,8 @@ import tempfile
 import unittest
 from unittest import mock
 
-from keeper import VERSION, install, status, steps
-from keeper.words import Fault
+from keeper import VERSION, install, status, whole_files
+from keeper.errors import Fault
 
 
 class Install(unittest.TestCase):
@@ -49,8 +49,9 @@ class Install(unittest.TestCase):
         self.assertEqual([line.removeprefix("would ") for line in said], done)
         there = self.files()
         for due in (
-            "etc/radio_ntpd/keeper.toml", "etc/radio_ntpd/station.toml", "etc/systemd/system/radio_ntpd.service", "usr/local/lib/radio_ntpd/bin/radio_ntpd", "usr/local/lib/radio_ntpd/radio_keeper",
-            "usr/local/lib/radio_ntpd/keeper/run.py", "usr/local/lib/radio_ntpd/keeper/page.css", "usr/local/lib/radio_ntpd/feeders/edges_to_log.py", "usr/local/share/man/man8/radio_ntpd.8",
+            "etc/sysusers.d/radio_ntpd.conf", "etc/tmpfiles.d/radio_ntpd.conf",
+            "etc/radio_ntpd/keeper.toml", "etc/radio_ntpd/station.toml", "etc/systemd/system/radio_ntpd.service", "etc/systemd/system/radio_ntpd.socket", "usr/local/lib/radio_ntpd/bin/radio_ntpd", "usr/local/lib/radio_ntpd/radio_keeper",
+            "usr/local/lib/radio_ntpd/keeper/run.py", "usr/local/lib/radio_ntpd/keeper/reporter/page.css", "usr/local/lib/radio_ntpd/keeper/supervisor/runs.py", "usr/local/lib/radio_ntpd/feeders/edges_to_log.py", "usr/local/share/man/man8/radio_ntpd.8",
             "usr/local/share/man/man1/radio_keeper.1", "usr/local/share/man/man5/radio_ntpd.toml.5",
         ):
             self.assertIn(due, there)
@@ -63,9 +64,9 @@ class Install(unittest.TestCase):
         settings = os.path.join(self.root, "etc/radio_ntpd/keeper.toml")
         self.put(settings, 'state = "elsewhere"\n')
         with mock.patch("keeper.status.FILES", ("/nosuch", settings)):
-            self.assertEqual(status.folder_of(None), os.path.join(os.path.dirname(settings), "elsewhere"))
+            self.assertEqual(status.folders_of(None), [os.path.join(os.path.dirname(settings), "elsewhere")] * 2)
             with mock.patch("keeper.status.os.access", lambda *_: False):
-                self.assertEqual(status.folder_of(None), install.HOME)
+                self.assertEqual(status.folders_of(None), ["/run/radio_ntpd", install.HOME])
 
     def test_what_is_installed_runs(self):
         self.install("--do")
@@ -77,7 +78,9 @@ class Install(unittest.TestCase):
 
     def test_names_are_of_the_prefix(self):
         self.install("--do", "--prefix", "/usr")
-        for name in ("lib/systemd/system/radio_ntpd.service", "etc/radio_ntpd/keeper.toml"):
+        for kind in ("sysusers", "tmpfiles"):
+            self.assertIn(f"usr/lib/{kind}.d/radio_ntpd.conf", self.files())
+        for name in ("usr/lib/systemd/system/radio_ntpd.service", "etc/radio_ntpd/keeper.toml"):
             with open(os.path.join(self.root, name), encoding="utf-8") as file:
                 said = file.read()
             self.assertIn(" /usr/lib/radio_ntpd/" if "toml" in name else "=/usr/lib/radio_ntpd/", said)
@@ -106,28 +109,67 @@ class Install(unittest.TestCase):
         library = os.path.join(self.root, "usr/local/lib/radio_ntpd")
         for folder in (library, f"{library}/bin", f"{library}/keeper"):
             os.chmod(folder, 0o700)
-        self.assertEqual(len(self.install("--do")[:-1]), 3)
+            self.assertEqual(len(self.install("--do")[:-1]), 1)
         for folder, _, names in os.walk(self.root):
             self.assertEqual(os.stat(folder).st_mode & 0o777, 0o755, folder)
             for name in names:
                 if name not in ("keeper.toml", "station.toml"):
                     self.assertEqual(os.stat(os.path.join(folder, name)).st_mode & 0o444, 0o444, name)
 
+    def host_steps(self, is_new, groups=("root", "dialout", "gpio", "audio")):
+        """What is done on a host with these groups: sentences, and the commands of the host."""
+        places = install.Places("", "/usr")
+        there = [mock.Mock(gr_name=name) for name in groups]
+        with mock.patch("keeper.install.os.path.isdir", lambda path: True), \
+                mock.patch("keeper.install.grp.getgrall", lambda: there), \
+                mock.patch("keeper.install.command") as command:
+            # A partial has the function of the moment at which it is made.
+            steps = list(install.host_steps(places, is_new))
+            for _, act in steps:
+                act()
+        return [text for text, _ in steps], [" ".join(call.args) for call in command.call_args_list]
+
     def test_a_service_that_runs_goes_on_with_what_is_new(self):
         """The keeper in memory would start a new program by the old one's ways. A start that is not needed costs clients a second."""
-        places = install.Places(self.root, "/usr")
-        with mock.patch("keeper.install.os.path.isdir", lambda path: True):
-            for is_new in (True, False):
-                needed = [step.text for step in install.host_steps(places, is_new) if step.needed()]
-                self.assertEqual("start the service again, if it runs" in needed, is_new)
+        for is_new in (True, False):
+            said, done = self.host_steps(is_new)
+            self.assertEqual("start the service again, if it runs" in said, is_new)
+            self.assertEqual("systemctl try-restart radio_ntpd" in done, is_new)
 
-    def test_the_unit_lets_its_user_have_port_123(self):
-        """systemd.exec(5): a user's process has the capabilities that are ambient, out of those of its bounding set."""
+    def test_systemds_own_tools_make_the_user_and_what_it_may_read(self):
+        """They are given the files that lie in their place by then."""
+        self.install("--do", "--prefix", "/usr")
+        _, done = self.host_steps(False)
+        self.assertEqual(done, [
+            "systemd-sysusers /usr/lib/sysusers.d/radio_ntpd.conf", "usermod -aG gpio radio_ntpd",
+            "systemd-tmpfiles --create /usr/lib/tmpfiles.d/radio_ntpd.conf", "systemctl daemon-reload"])
+        for line in done[::2]:
+            self.assertIn(line.split()[-1].lstrip("/"), self.files())
+
+    def test_systemd_binds_port_123_and_no_process_has_a_capability(self):
         self.install("--do")
-        with open(os.path.join(self.root, "etc/systemd/system/radio_ntpd.service"), encoding="utf-8") as file:
-            lines = file.read().splitlines()
-        for due in ("User=radio_ntpd", "AmbientCapabilities=CAP_NET_BIND_SERVICE", "CapabilityBoundingSet=CAP_NET_BIND_SERVICE"):
-            self.assertIn(due, lines)
+        units = {}
+        for name in install.UNITS:
+            with open(os.path.join(self.root, "etc/systemd/system", name), encoding="utf-8") as file:
+                units[name] = file.read().splitlines()
+        self.assertIn("ListenDatagram=0.0.0.0:123", units["radio_ntpd.socket"])
+        for due in ("User=radio_ntpd", "CapabilityBoundingSet=", "Requires=radio_ntpd.socket"):
+            self.assertIn(due, units["radio_ntpd.service"])
+        self.assertFalse([one for one in units["radio_ntpd.service"] if "Ambient" in one])
+
+    def test_a_copy_that_fails_leaves_what_was_there(self):
+        self.install("--do")
+        library = os.path.join(self.root, "usr/local/lib/radio_ntpd")
+        self.put(f"{library}/keeper/run.py", "older")
+        with mock.patch("keeper.whole_files.os.replace", side_effect=OSError(28, "No space")):
+            with self.assertRaises(OSError):
+                self.install("--do")
+        with open(f"{library}/keeper/run.py", encoding="utf-8") as file:
+            self.assertEqual(file.read(), "older")
+        self.assertEqual(os.listdir(os.path.dirname(library)), ["radio_ntpd"])
+        self.assertEqual(sorted(os.listdir(library)), ["bin", "feeders", "keeper", "lab", "radio_keeper", "tools"])
+        self.install("--do")
+        self.assertEqual(self.install("--do")[:-1], [])
 
     def test_the_unit_lets_receivers_in_that_are_plugged_in_later(self):
         """systemd.resource-control(5): a name is looked up in /proc/devices as the unit starts. Drivers of USB ports are modules, and these
@@ -138,11 +180,31 @@ class Install(unittest.TestCase):
         self.assertEqual(devices, {"char-gpiochip", "char-ttyS", "char-ttyAMA", "char-188", "char-166"})
 
     def test_the_user_gets_into_the_groups_of_gpio_lines_and_serial_ports(self):
-        """Those of Debian and Raspberry Pi OS."""
-        there = [mock.Mock(gr_name=name, gr_mem=[]) for name in ("root", "dialout", "gpio", "audio")]
-        with mock.patch("keeper.steps.grp.getgrall", lambda: there):
-            said = [step.text for step in install.host_steps(install.Places(self.root, "/usr"), True)]
-        self.assertEqual({line.split()[5].rstrip(",") for line in said if "into the group" in line}, {"dialout", "gpio"})
+        """Those of Debian and Raspberry Pi OS. Not every host has the one of GPIO lines, and sysusers.d would make it."""
+        lines = (install.TOP / "packaging/radio_ntpd.sysusers").read_text(encoding="ascii").splitlines()
+        self.assertEqual([line.split()[:3] for line in lines if not line.startswith("#")],
+                         [["u", "radio_ntpd", "-"], ["m", "radio_ntpd", "dialout"]])
+        self.assertIn("usermod -aG gpio radio_ntpd", self.host_steps(True)[1])
+        self.assertFalse([one for one in self.host_steps(True, groups=("root",))[1] if "gpio" in one])
+
+    @unittest.skipUnless(shutil.which("systemd-sysusers") and os.geteuid() == 0, "no systemd-sysusers, or not root")
+    def test_systemd_takes_its_files(self):
+        """A user with a group, a home and no shell, and settings that its group can read."""
+        self.install("--do", "--prefix", "/usr")
+        etc = os.path.join(self.root, "etc")
+        self.put(f"{etc}/passwd", "root:x:0:0:root:/root:/bin/sh\n")
+        self.put(f"{etc}/group", "root:x:0:\ndialout:x:20:\n")
+        for words in (("systemd-sysusers",), ("systemd-tmpfiles", "--create")):
+            done = subprocess.run([*words, f"--root={self.root}", "radio_ntpd.conf"], capture_output=True, check=False)
+            self.assertEqual((done.returncode, [line for line in done.stderr.splitlines() if b"radio_ntpd" not in line]), (0, []))
+        with open(f"{etc}/passwd", encoding="ascii") as file:
+            user = file.read().splitlines()[-1].split(":")
+        self.assertEqual((user[0], user[5], os.path.basename(user[6])), ("radio_ntpd", install.HOME, "nologin"))
+        with open(f"{etc}/group", encoding="ascii") as file:
+            self.assertEqual({line.split(":")[0]: line.split(":")[3].strip() for line in file}, {"root": "", "dialout": "radio_ntpd", "radio_ntpd": ""})
+        for name in ("keeper.toml", "station.toml"):
+            about = os.stat(f"{etc}/radio_ntpd/{name}")
+            self.assertEqual((about.st_uid, about.st_gid, about.st_mode & 0o777), (0, int(user[3]), 0o640))
 
     def test_only_what_users_call_is_installed_of_the_tools(self):
         """Each of them finds what it imports, and a picture of a day is drawn."""
@@ -157,19 +219,25 @@ class Install(unittest.TestCase):
             self.assertTrue(done.stdout)
         self.assertFalse(list(library.rglob("__pycache__")))
 
+    def trees(self):
+        """A folder that an old tree lies in, and a new one."""
+        old, new = ({name: (text, 0o644) for name in ("a", "b/c")} for text in (b"old", b"new"))
+        path = pathlib.Path(self.root, "room/path")
+        whole_files.put_folder(str(path), old)
+        return path, new
+
+    def texts(self, path):
+        return sorted(one.read_text() for one in path.rglob("*") if one.is_file())
+
     def test_a_new_folder_has_the_place_of_the_old_one_at_once(self):
         """At each moment at which it could be ended, the installed folder has all files of the old version or of the new one."""
-        old, new, path = (pathlib.Path(self.program).parent / name for name in ("old", "new", "path"))
-        for folder, text in ((old, "old"), (new, "new")):
-            folder.mkdir()
-            for name in ("a", "b"):
-                (folder / name).write_text(text, encoding="ascii")
         for swaps in (True, False):
             with self.subTest(swaps=swaps):
-                steps.put_folder(str(old), str(path), ["a", "b"]).do()
-                self.see_each_moment(path, lambda: steps.put_folder(str(new), str(path), ["a", "b"]).do(), swaps)
-                self.assertEqual({one.read_text() for one in path.iterdir()}, {"new"})
-                self.assertEqual(sorted(one.name for one in path.parent.iterdir()), ["new", "old", "path", "program"])
+                path, new = self.trees()
+                self.see_each_moment(path, lambda: whole_files.put_folder(str(path), new), swaps)
+                self.assertEqual(self.texts(path), ["new", "new"])
+                self.assertTrue(whole_files.has_tree(str(path), new))
+                self.assertEqual(os.listdir(path.parent), ["path"])
 
     def see_each_moment(self, path, act, swaps):
         """Looks before each call that changes a folder. Without a swap the folder is away between two renames."""
@@ -177,38 +245,39 @@ class Install(unittest.TestCase):
 
         def looking(call):
             def looks(*words, **more):
-                seen.append(sorted(one.read_text() for one in path.iterdir()) if path.exists() else [])
+                seen.append(self.texts(path) if path.exists() else [])
                 return call(*words, **more)
             return looks
 
         library = mock.Mock(renameat2=mock.Mock(return_value=-1))
         with contextlib.ExitStack() as stack:
-            for name, call in (("os.rename", os.rename), ("shutil.rmtree", shutil.rmtree), ("shutil.copyfile", shutil.copyfile)):
-                stack.enter_context(mock.patch(f"keeper.steps.{name}", looking(call)))
+            for name in ("os.rename", "os.replace", "os.makedirs", "os.chmod", "tempfile.TemporaryDirectory"):
+                call = getattr(tempfile if "tempfile" in name else os, name.partition(".")[2])
+                stack.enter_context(mock.patch(f"keeper.whole_files.{name}", looking(call)))
+            stack.enter_context(mock.patch("shutil.rmtree", looking(shutil.rmtree)))
             if not swaps:
-                stack.enter_context(mock.patch("keeper.steps.ctypes.CDLL", lambda *_, **__: library))
-                stack.enter_context(mock.patch("keeper.steps.ctypes.get_errno", lambda: errno.EINVAL))
+                stack.enter_context(mock.patch("keeper.whole_files.ctypes.CDLL", lambda *_, **__: library))
+                stack.enter_context(mock.patch("keeper.whole_files.ctypes.get_errno", lambda: errno.EINVAL))
             act()
+        self.assertGreater(len(seen), 8)
         self.assertEqual(sum(one == [] for one in seen), 0 if swaps else 1)
         self.assertTrue(all(one in (["old"] * 2, ["new"] * 2, []) for one in seen), seen)
 
     def test_a_folder_that_cannot_be_renamed_leaves_the_old_one(self):
-        old, new, path = (pathlib.Path(self.program).parent / name for name in ("old", "new", "path"))
-        for folder in (old, new):
-            folder.mkdir()
-            (folder / "a").write_text(folder.name, encoding="ascii")
-        steps.put_folder(str(old), str(path), ["a"]).do()
-        renames = mock.Mock(side_effect=[None, OSError(errno.EIO, "Input/output error"), None])
+        path, new = self.trees()
+        rename = os.rename
         for refused in (errno.EACCES, errno.EINVAL):
+            # The first puts the old one aside, the second fails, the third puts it back.
+            renames = mock.Mock(side_effect=[rename, OSError(errno.EIO, "Input/output error"), rename])
             library = mock.Mock(renameat2=mock.Mock(return_value=-1))
-            with mock.patch("keeper.steps.ctypes.CDLL", lambda *_, **__: library), mock.patch("keeper.steps.ctypes.get_errno", lambda: refused):
-                with mock.patch("keeper.steps.os.rename", renames), self.assertRaises(OSError):
-                    steps.put_folder(str(new), str(path), ["a"]).do()
-            self.assertEqual((path / "a").read_text(), "old")
-            self.assertEqual(sorted(one.name for one in path.parent.iterdir()), ["new", "old", "path", "program"])
-        self.assertEqual(renames.call_args_list[0].args, tuple(reversed(renames.call_args_list[2].args)), "it is put back")
+            with mock.patch("keeper.whole_files.ctypes.CDLL", lambda *_, **__: library), mock.patch("keeper.whole_files.ctypes.get_errno", lambda: refused):
+                with mock.patch("keeper.whole_files.os.rename", lambda *names: renames()(*names)), self.assertRaises(OSError):
+                    whole_files.put_folder(str(path), new)
+            self.assertEqual(self.texts(path), ["old", "old"])
+            self.assertEqual(os.listdir(path.parent), ["path"])
+            self.assertEqual(renames.call_count, 3 if refused == errno.EINVAL else 0)
 
-    @unittest.skipUnless(shutil.which("dpkg-deb"), "no dpkg-deb")
+    @unittest.skipUnless(shutil.which("dh_python3") and shutil.which("dh"), "no debhelper, or no dh-python")
     def test_a_package_has_examples_and_no_settings(self):
         """Of files below /etc that `radio_keeper install` left dpkg would ask which to keep, and fail without a terminal."""
         folder = os.path.dirname(self.root)
@@ -238,13 +307,15 @@ class Install(unittest.TestCase):
             file.write_text("", encoding="ascii")
             os.utime(file, (1000, 1000))
         os.utime(test, (2000, 2000))
-        self.assertIsNone(install.newer_source(program, top))
-        os.utime(source, (2000, 2000))
-        self.assertEqual(install.newer_source(program, top), source)
-        self.assertIsNone(install.newer_source(pathlib.Path(self.program), top), "it is named by --program")
-        with mock.patch("keeper.install.newer_source", lambda program: source), mock.patch("keeper.install.built_program", lambda: str(self.program)):
+        program.chmod(0o755)
+        with mock.patch("keeper.install.TOP", top), mock.patch("keeper.install.built_program", lambda: str(program)):
+            self.assertEqual(install.named_program(None), str(program))
+            os.utime(source, (2000, 2000))
             with self.assertRaisesRegex(Fault, "the program is older than .*lib.rt: run ./radio_ntpd once"):
-                install.main(["--root", self.root])
+                install.named_program(None)
+            self.assertEqual(install.named_program(str(program)), str(program), "it is named by --program")
+        with mock.patch("keeper.install.TOP", top), mock.patch("keeper.install.built_program", lambda: self.program):
+            self.assertEqual(install.named_program(None), self.program, "it is no program of this folder")
 
     def test_what_an_earlier_version_had_besides_goes(self):
         self.install("--do")
@@ -253,17 +324,22 @@ class Install(unittest.TestCase):
         self.assertEqual(len(self.install("--do")[:-1]), 1)
         self.assertFalse(left.exists())
 
-    def test_a_link_in_the_place_of_a_file_in_the_making_is_not_followed(self):
-        victim, path = (os.path.join(os.path.dirname(self.program), name) for name in ("victim", "unit"))
+    def test_a_link_in_the_place_of_a_file_is_not_followed(self):
+        """It is replaced, also where it leads to a folder or nowhere."""
+        folder = os.path.dirname(self.program)
+        victim, path = (os.path.join(folder, name) for name in ("victim", "unit"))
         self.put(victim, "mine")
-        os.symlink(victim, f"{path}.{os.getpid()}.part")
-        with self.assertRaises(FileExistsError):
-            steps.put_file(b"other", path, 0o644).do()
-        self.assertEqual(pathlib.Path(victim).read_text(encoding="ascii"), "mine")
-        self.assertFalse(os.path.exists(path))
+        for target in (victim, folder, "/nosuch"):
+            os.symlink(target, path)
+            self.assertEqual(whole_files.file_at(path), (target.encode(), whole_files.LINK))
+            whole_files.put_file(path, b"other", 0o644)
+            self.assertEqual(whole_files.file_at(path), (b"other", 0o644))
+            self.assertEqual(pathlib.Path(victim).read_text(encoding="ascii"), "mine")
+            os.unlink(path)
+        self.assertEqual(sorted(os.listdir(folder)), ["program", "victim"])
 
     def test_a_command_of_the_host_has_a_minute(self):
-        self.assertEqual(steps.LIMIT, 60)
+        self.assertEqual(install.LIMIT, 60)
 
     def test_what_is_refused_before_anything_is_done(self):
         with mock.patch("keeper.install.os.geteuid", lambda: 1000), self.assertRaisesRegex(Fault, "^only root can do that"):
@@ -273,11 +349,12 @@ class Install(unittest.TestCase):
         self.assertFalse(os.path.exists(self.root))
 
     def test_the_service_may_read_its_settings_and_others_may_not(self):
-        places = install.Places(self.root, "/usr")
-        with mock.patch("keeper.install.is_of_group", lambda path, name: "station" in path):
-            needed = [step.text for step in install.host_steps(places, False) if step.needed()]
-        self.assertTrue(any("keeper.toml" in text and "let the group radio_ntpd read" in text for text in needed))
-        self.assertFalse(any("station.toml" in text for text in needed))
+        """Their modes, where the operator set others, stay; test_systemd_takes_its_files has the example's."""
+        lines = (install.TOP / "packaging/radio_ntpd.tmpfiles").read_text(encoding="ascii").splitlines()
+        self.assertEqual([line.split() for line in lines if line.startswith("z")], [
+            ["z", f"/etc/radio_ntpd/{name}.toml", "-", "-", "radio_ntpd"] for name in ("keeper", "station")])
+        said, done = self.host_steps(False)
+        self.assertIn("let the group radio_ntpd read /etc/radio_ntpd, which may have what isn't for everybody", said)
 
     def test_a_program_that_is_not_built(self):
         os.unlink(self.program)
@@ -294,7 +371,7 @@ class PostInstall(unittest.TestCase):
         self.top = folder.name
         for name in ("bin", "run/systemd/system", "etc/radio_ntpd"):
             os.makedirs(os.path.join(self.top, name))
-        for name in ("getent", "usermod", "chgrp"):
+        for name in ("getent", "usermod"):
             self.stub(name, 0)
         examples = pathlib.Path(self.top, "usr/share/radio_ntpd")
         examples.mkdir(parents=True)
@@ -315,28 +392,28 @@ class PostInstall(unittest.TestCase):
         with open(f"{self.top}/calls", encoding="ascii") as file:
             return done.returncode, file.read().splitlines()
 
-    def test_a_service_that_runs_goes_on_with_what_is_new(self):
-        self.stub("systemctl", 0)
-        status, calls = self.configure("0.2.0")
-        self.assertEqual(status, 0)
-        self.assertEqual([call for call in calls if call.startswith("systemctl")], ["systemctl daemon-reload", "systemctl try-restart radio_ntpd"])
-
-    def test_a_service_that_does_not_start_leaves_the_package_whole(self):
-        self.stub("systemctl", '$(case "$1" in try-restart) echo 1 ;; *) echo 0 ;; esac)')
-        self.assertEqual(self.configure("0.2.0")[0], 0)
+    def test_the_user_gets_into_the_group_of_gpio_lines_where_there_is_one(self):
+        self.assertIn("usermod -aG gpio radio_ntpd", self.configure()[1])
+        os.unlink(f"{self.top}/calls")
+        self.stub("getent", 2)
+        self.assertEqual(self.configure(), (0, ["getent group gpio"]))
 
     def test_settings_that_are_there_stay_and_those_that_the_operator_removed_stay_away(self):
-        self.stub("systemctl", 0)
         settings = pathlib.Path(self.top, "etc/radio_ntpd")
-        status, calls = self.configure("0.2.0")
-        self.assertEqual((status, [call for call in calls if call.startswith("chgrp")], list(settings.iterdir())), (0, [], []))
+        self.assertEqual(self.configure("0.2.0")[0], 0)
+        self.assertEqual(list(settings.iterdir()), [])
         (settings / "station.toml").write_text("mine", encoding="ascii")
         for words in (("0.2.0",), ()):
-            self.assertIn(f"chgrp radio_ntpd {settings}/station.toml", self.configure(*words)[1])
+            self.assertEqual(self.configure(*words)[0], 0)
             self.assertEqual((settings / "station.toml").read_text(), "mine")
         self.assertEqual((settings / "keeper.toml").read_text(), "example keeper.toml")
         self.assertEqual((settings / "keeper.toml").stat().st_mode & 0o777, 0o640)
-        self.assertIn(f"chgrp radio_ntpd {settings}/keeper.toml", self.configure()[1])
+
+    def test_the_next_step_is_said_once(self):
+        self.configure()
+        self.assertIn("then radio_keeper check, then systemctl enable --now radio_ntpd\n", self.said)
+        self.configure("0.2.0")
+        self.assertEqual(self.said, "")
 
     def test_settings_of_a_folder_that_was_removed_are_named(self):
         """As where `radio_keeper install` had put all below /usr/local, and took it away again."""
@@ -348,14 +425,22 @@ class PostInstall(unittest.TestCase):
         self.configure()
         self.assertNotIn("write /usr/lib", self.said)
 
-    def test_what_python_compiled_goes_before_a_removal(self):
-        left = pathlib.Path(self.top, "usr/lib/radio_ntpd/tools/__pycache__")
-        left.mkdir(parents=True)
-        (left / "plots.pyc").write_text("", encoding="ascii")
-        about = {"PATH": f"{self.top}/bin:/usr/bin:/bin", "DPKG_ROOT": self.top}
-        subprocess.run(["sh", install.TOP / "packaging/debian/prerm", "upgrade"], env=about, check=True)
-        self.assertEqual([one.name for one in left.parent.parent.iterdir()], ["tools"])
-        self.assertFalse(left.exists())
+
+class Sentences(unittest.TestCase):
+    def test_commands(self) -> None:
+        with self.assertRaisesRegex(Fault, "^`sh -c exit 3` ended with 3$"):
+            install.command("sh", "-c", "exit 3")
+        with mock.patch.object(install, "LIMIT", 0.1):
+            with self.assertRaisesRegex(Fault, "^`sleep 9` isn't over after 0 s$"):
+                install.command("sleep", "9")
+
+    def test_a_program_that_is_not_there(self) -> None:
+        said = "there is no built program /nosuch: build it, or name it with --program"
+        with self.assertRaisesRegex(Fault, said):
+            install.main(["--program", "/nosuch"])
+        words = install.next_words(install.Places("/", "/usr"), True)
+        self.assertTrue(words.endswith(
+            "then `systemctl enable --now radio_ntpd`, then `radio_keeper status`"))
 
 
 if __name__ == "__main__":

@@ -1,5 +1,6 @@
 """One keeper for a state folder, and nobody else who could keep it from starting."""
 
+import errno
 import fcntl
 import os
 import stat
@@ -9,58 +10,71 @@ import time
 import unittest
 
 from keeper import lock
-from keeper.words import Fault
+from keeper.supervisor.host import Host
+from keeper.errors import Fault
 
 
 class Locks(unittest.TestCase):
     def setUp(self):
         folder = tempfile.TemporaryDirectory()
         self.addCleanup(folder.cleanup)
-        self.folder = os.path.join(folder.name, "state")
+        self.folder, self.host = os.path.join(folder.name, "state"), Host()
+        os.mkdir(self.folder)
 
     def test_one_at_a_time(self):
-        first = lock.take(self.folder)
+        first = lock.take(self.host, self.folder)
         with self.assertRaisesRegex(Fault, f"^another keeper has {self.folder}$"):
-            lock.take(self.folder)
+            lock.take(self.host, self.folder)
         self.assertTrue(lock.is_taken(self.folder))
         os.close(first)
         self.assertFalse(lock.is_taken(self.folder))
-        os.close(lock.take(self.folder))
+        os.close(lock.take(self.host, self.folder))
 
     def test_a_lock_that_any_user_may_hold_is_none(self):
         """The folder can be read by everyone, and so be locked; the file in it can't be opened."""
-        os.mkdir(self.folder)
         stranger = os.open(self.folder, os.O_RDONLY)
         self.addCleanup(os.close, stranger)
         fcntl.flock(stranger, fcntl.LOCK_SH)
-        self.addCleanup(os.close, lock.take(self.folder))
+        self.addCleanup(os.close, lock.take(self.host, self.folder))
         self.assertEqual(stat.S_IMODE(os.stat(os.path.join(self.folder, lock.NAME)).st_mode), 0o600)
 
     def test_one_who_may_not_open_it_looks_at_the_hosts_list(self):
         path = os.path.join(self.folder, lock.NAME)
         self.assertFalse(lock._is_listed(path))
-        taken = lock.take(self.folder)
+        taken = lock.take(self.host, self.folder)
         self.assertTrue(lock._is_listed(path))
         os.close(taken)
         self.assertFalse(lock._is_listed(path))
 
     def test_one_who_looks_at_it_keeps_none_from_starting(self):
-        os.close(lock.take(self.folder))
+        os.close(lock.take(self.host, self.folder))
         looks = os.open(os.path.join(self.folder, lock.NAME), os.O_RDONLY)
         fcntl.flock(looks, fcntl.LOCK_SH)
         later = threading.Timer(0.3, os.close, [looks])
         later.start()
         self.addCleanup(later.join)
         began = time.monotonic()
-        self.addCleanup(os.close, lock.take(self.folder))
+        self.addCleanup(os.close, lock.take(self.host, self.folder))
         self.assertGreater(time.monotonic() - began, 0.2)
 
     def test_a_link_in_its_place_is_not_followed(self):
-        os.mkdir(self.folder)
         os.symlink("/dev/null", os.path.join(self.folder, lock.NAME))
         with self.assertRaises(OSError):
-            lock.take(self.folder)
+            lock.take(self.host, self.folder)
         self.assertFalse(lock.is_taken(self.folder))
+
+    def test_on_a_disk_that_takes_nothing_a_keeper_starts_all_the_same(self):
+        real = self.host.open
+
+        def full(path: str, flags: int, mode: int = 0o640) -> int:
+            if flags & os.O_CREAT:
+                raise OSError(errno.ENOSPC, "No space left on device")
+            return real(path, flags, mode)
+
+        self.host.open = full
+        self.addCleanup(os.close, lock.take(self.host, self.folder))
+        with self.assertRaisesRegex(Fault, "another keeper has"):
+            lock.take(self.host, self.folder)
 
 
 if __name__ == "__main__":

@@ -1,149 +1,218 @@
-"""Dated logs of pulses: one a day and a boot, whole lines, compressed and kept for a while, whatever the host refuses and however its clock is set."""
+"""Pulse logs, whatever the disk refuses and however the clock is set."""
 
-import gzip
+import errno
 import os
 import pathlib
-import shutil
 import tempfile
 import time
 import unittest
 from unittest import mock
 
-from keeper.journals import name_of
-from keeper.pulse_log import PulseLog, compress, day_of, oldest_kept
+from keeper.supervisor import clocks, disk
+from keeper.supervisor.logs import PulseLog
+from keeper.supervisor.pulses import Pulse
+from keeper.tests.fake_host import FakeHost
 
 DAY = 86400
+NAME = "0-dcf.20231114.b0070001.log"
 
 
-class Logs(unittest.TestCase):
-    def setUp(self):
+class Folder(unittest.TestCase):
+    def setUp(self) -> None:
         folder = tempfile.TemporaryDirectory()
         self.addCleanup(folder.cleanup)
         self.folder = pathlib.Path(folder.name)
-        self.said = []
+        self.host = FakeHost()
+        self.addCleanup(self.host.close_all)
+        self.host.ahead = 1_700_000_000 - self.host.now  # 2023-11-14 22:13:20
 
-    def log(self, days=3, boot="b0070001"):
-        log = PulseLog(str(self.folder), 0, "dcf", days, self.said.append, boot)
-        self.addCleanup(log.close)
-        self.addCleanup(log.join)
-        return log
-
-    def names(self):
+    def names(self) -> list[str]:
         return sorted(one.name for one in self.folder.iterdir())
 
-    def test_a_day_a_log_and_the_older_ones_compressed(self):
-        log = self.log()
-        for day in range(6):
-            log.write(day * 10 + 1, b"%d 1\n" % (day * 10 + 1), day * DAY)
-            log.write(day * 10 + 2, b"%d 1\n" % (day * 10 + 2), day * DAY + 5)
-            log.join()
-        self.assertEqual(self.names(), [f"0-dcf.1970010{day}.b0070001.log{end}" for day, end in ((3, ".gz"), (4, ".gz"), (5, ".gz"), (6, ""))])
-        self.assertEqual(gzip.decompress((self.folder / "0-dcf.19700104.b0070001.log.gz").read_bytes()), b"31 1\n32 1\n")
-        self.assertEqual(self.said, [])
 
-    def test_days_are_those_of_utc_whatever_zone_the_host_has(self):
-        """Half past eleven in the evening of UTC is the next day in a zone 14 hours ahead, and half past noon in one 11 hours after it."""
+class Logs(Folder):
+    def log(self, tag: str = "b0070001") -> PulseLog:
+        return PulseLog(self.host, str(self.folder), 0, "dcf", tag)
+
+    def add(self, log: PulseLog, *starts: int) -> None:
+        log.add([Pulse(start, 1) for start in starts])
+        self.host.now += 2
+        log.turn(self.host.now)
+        log.turn(self.host.now)
+
+    def test_a_day_a_log(self) -> None:
+        log = self.log()
+        self.add(log, 1, 2)
+        self.host.ahead += DAY
+        self.add(log, 3)
+        self.assertEqual(self.names(), [NAME, NAME.replace("1114", "1115")])
+        self.assertEqual((self.folder / NAME).read_bytes(), b"1 1\n2 1\n")
+
+    def test_a_keeper_that_begins_again_goes_on_after_the_last_whole_line(self) -> None:
+        (self.folder / NAME).write_bytes(b"10 1\n20 1\n3")
+        self.add(self.log(), 30)
+        self.assertEqual((self.folder / NAME).read_bytes(), b"10 1\n20 1\n30 1\n")
+
+    def test_zeros_of_a_power_cut_are_cut_off(self) -> None:
+        (self.folder / NAME).write_bytes(b"10 1\n20 1\n" + bytes(200))
+        self.add(self.log(), 30)
+        self.assertEqual((self.folder / NAME).read_bytes(), b"10 1\n20 1\n30 1\n")
+
+    def test_what_the_disk_refuses_waits_and_is_said_once(self) -> None:
+        log = self.log()
+        self.add(log, 1)
+        write = self.host.write
+        refusal = OSError(errno.ENOSPC, "No space left on device")
+        with mock.patch.object(self.host, "write", mock.Mock(side_effect=refusal)):
+            with self.assertLogs("keeper") as said:
+                self.add(log, 2)
+                self.add(log, 3)
+        note = "the log of radio 0 can't be written: No space left on device"
+        self.assertEqual(log.note.text, note)
+        self.assertEqual([one.partition("disk:")[2] for one in said.output], [note])
+        self.host.write = write  # type: ignore
+        with self.assertLogs("keeper") as said:
+            self.add(log, 4)
+        self.assertIn("can be written again", said.output[0])
+        self.assertEqual((self.folder / NAME).read_bytes(), b"1 1\n2 1\n3 1\n4 1\n")
+
+    def test_a_disk_that_gets_full_in_a_line_leaves_whole_lines(self) -> None:
+        log = self.log()
+        self.add(log, 1)
+        write, takes = self.host.write, [2, 0]
+        with mock.patch.object(self.host, "write", lambda descriptor, data: write(
+                descriptor, data[:takes.pop(0)])), self.assertLogs("keeper"):
+            self.add(log, 2)
+        self.assertEqual((self.folder / NAME).read_bytes(), b"1 1\n")
+        self.add(log, 3)
+        self.assertEqual((self.folder / NAME).read_bytes(), b"1 1\n2 1\n3 1\n")
+
+    def test_a_log_that_was_taken_away_is_made_again(self) -> None:
+        log = self.log()
+        self.add(log, 1)
+        (self.folder / NAME).unlink()
+        self.add(log, 2)
+        self.assertEqual((self.folder / NAME).read_bytes(), b"2 1\n")
+
+    def test_a_disk_that_hangs_holds_nothing_up_and_loses_nothing(self) -> None:
+        log = self.log()
+        self.host.disk_hangs = True
+        for start in range(100):
+            self.add(log, start)
+        self.assertEqual(self.names(), [])
+        self.host.disk_goes_on()
+        self.add(log, 100)
+        self.add(log, 101)
+        self.assertEqual((self.folder / NAME).read_bytes().count(b"\n"), 102)
+
+    def test_lines_are_on_the_disk_within_a_minute(self) -> None:
+        log, synced = self.log(), []
+        with mock.patch.object(self.host, "sync", lambda _: synced.append(self.host.now)):
+            for start in range(100):
+                self.add(log, start)
+        gaps = [after - before for before, after in zip(synced, synced[1:])]
+        self.assertLess(max(gaps), 60)
+
+    def test_what_was_logged_of_this_counter_and_source_is_read_back(self) -> None:
+        now = int(self.host.now * 1e6)
+        log = self.log()
+        self.add(log, now - 1000_000_000, now - 800_000_000, now - 5)
+        again = self.log()
+        self.assertEqual([one.start for one in again.last_pulses()], [now - 800_000_000, now - 5])
+        self.assertEqual(self.log("b0070002").last_pulses(), [])
+
+    def test_half_a_line_where_the_end_of_a_long_log_begins_is_left_out(self) -> None:
+        log, self.host.now = self.log(), 600.0
+        starts = list(range(200_000_000, 599_000_000, 100_000))
+        for count in range(17):  # short lines, so that each place of a line is the first once
+            starts.append(599_000_000 + count)
+            widths = {one: 1 if one >= 599_000_000 else 100_000 for one in starts}
+            text = b"".join(b"%d %d\n" % one for one in widths.items())
+            (self.folder / NAME).write_bytes(text)
+            found = [one.start for one in log.last_pulses()]
+            self.assertEqual(found, starts[-len(found):])
+            self.assertGreater(len(found), 3000)
+
+    def test_what_was_logged_before_the_clock_was_set_is_read_back_too(self) -> None:
+        log, starts = self.log(), []
+        for step in (0, 5 * DAY, -9 * DAY):
+            self.host.ahead += step
+            starts.append(int(self.host.now * 1e6))
+            self.add(log, starts[-1])
+        self.assertEqual([one.start for one in self.log().last_pulses()], starts)
+
+    def test_the_days_are_those_of_utc_whatever_zone_the_host_has(self) -> None:
         self.addCleanup(time.tzset)
         for zone in ("XXX-14", "XXX+11", "UTC0"):
             with self.subTest(zone=zone), mock.patch.dict(os.environ, TZ=zone):
                 time.tzset()
-                self.assertEqual([day_of(unix) for unix in (0.0, DAY - 1800.0, DAY)], ["19700101", "19700101", "19700102"])
-                self.assertEqual(name_of(DAY - 1800.0), "19700101T233000Z")
+                days = [disk.day_of(unix) for unix in (0.0, DAY - 1800.0, DAY)]
+                self.assertEqual(days, ["19700101", "19700101", "19700102"])
 
-    def test_the_first_day_that_is_kept(self):
-        for there, today, due in (([], "20260301", "20260226"), (["20260228"], "20260301", "20260226"), (["20260201", "20260301"], "20260301", "20260130"),
-                                  (["20260201"], "20260302", "20260130"), (["20260301"], "20360101", "20260227"), (["20360101"], "20260301", "20260226")):
-            with self.subTest(there=there, today=today):
-                self.assertEqual(oldest_kept(there, today, 3), due)
 
-    def test_a_keeper_that_begins_again_goes_on_behind_the_last_whole_line(self):
-        (self.folder / "0-dcf.19700101.b0070001.log").write_bytes(b"10 1\n20 1\n3")
-        (self.folder / "0-dcf.19700101.b0070000.log").write_bytes(b"99 1\n")
-        (self.folder / "0-dcf.19691231.b0070000.log.gz.part").write_bytes(b"half")
-        log = self.log()
-        for start in (10, 20, 30):
-            log.write(start, b"%d 1\n" % start, 5.0)
-        log.join()
-        self.assertEqual((self.folder / "0-dcf.19700101.b0070001.log").read_bytes(), b"10 1\n20 1\n30 1\n")
-        # Of a boot before no more comes: its log is compressed.
-        self.assertEqual(self.names(), ["0-dcf.19700101.b0070000.log.gz", "0-dcf.19700101.b0070001.log"])
+class Counters(Folder):
+    def test_a_log_is_of_one_boot_one_source_and_no_sleep(self) -> None:
+        def tag(source: str, boot: str = "a boot") -> str:
+            return clocks.tag_of(clocks.counter(self.host, boot), source)
 
-    def test_what_can_not_be_written_is_said_once(self):
-        log = self.log()
-        log.path = lambda day: str(self.folder / "nosuch" / "log")
-        for start in range(1, 5):
-            log.write(start, b"%d 1\n" % start, 5.0)
-        self.assertEqual(self.said, ["the log of radio 0 can't be written: No such file or directory"])
+        first = tag("command a")
+        self.assertEqual(tag("command a"), first)
+        self.assertNotEqual(tag("command b"), first)
+        self.host.now += 1000
+        self.assertEqual(tag("command a"), first)
+        self.host.asleep = 0.01
+        slept = tag("command a")
+        self.assertNotEqual(slept, first)
+        self.assertNotEqual(tag("command a", "another"), slept)
 
-    def test_a_disk_that_gets_full_in_a_line_leaves_whole_lines(self):
-        log = self.log()
-        log.write(1, b"1 1\n", 5.0)
-        whole, write = [False], os.write
-        with mock.patch("keeper.pulse_log.os.write", lambda descriptor, line: write(descriptor, line if whole[0] else line[:2])):
-            log.write(2, b"2 1\n", 5.0)
-            whole[0] = True
-            log.write(3, b"3 1\n", 5.0)
-        self.assertEqual((self.folder / "0-dcf.19700101.b0070001.log").read_bytes(), b"1 1\n3 1\n")
-        self.assertEqual(self.said, ["the log of radio 0 can't be written: No space left on device", "the log of radio 0 can be written again"])
-        self.assertEqual(log.note, "")
+    def test_sleeps_of_ten_milliseconds_together_are_seen_once(self) -> None:
+        watch = clocks.Clocks(self.host)
+        self.host.asleep += 0.009
+        self.assertEqual(watch.sleep(), 0.0)
+        self.host.asleep += 0.0011
+        self.assertAlmostEqual(watch.sleep(), 0.0101, places=6)
+        self.assertEqual(watch.sleep(), 0.0)
 
-    def test_what_can_not_be_written_stands_in_a_note(self):
-        log = self.log()
-        with mock.patch("keeper.pulse_log.os.write", mock.Mock(side_effect=OSError(28, "No space left on device"))):
-            log.write(1, b"1 1\n", 5.0)
-            self.assertEqual(log.note, "the log of radio 0 can't be written: No space left on device")
-            log.write(1, b"1 1\n", 5.0)
-        self.assertEqual(self.said, [log.note])
+    def test_a_step_of_the_clock_and_a_slew(self) -> None:
+        watch = clocks.Clocks(self.host)
+        for _ in range(100):
+            self.host.ahead += 0.1
+            self.assertEqual(watch.step(), 0.0)
+        self.host.ahead -= 3600
+        self.assertAlmostEqual(watch.step(), -3600, places=3)
+        self.host.asleep += 1000  # a sleep is none
+        self.assertEqual(watch.step(), 0.0)
 
-    def test_a_log_or_a_folder_that_was_taken_away_is_made_again(self):
-        log = self.log()
-        name = self.folder / "0-dcf.19700101.b0070001.log"
-        log.write(1, b"1 1\n", 5.0)
-        name.unlink()
-        log.write(2, b"2 1\n", 5.0)
-        self.assertEqual(name.read_bytes(), b"2 1\n")
-        log.join()
-        shutil.rmtree(self.folder)
-        log.write(3, b"3 1\n", 5.0)
-        self.assertEqual((name.read_bytes(), self.said), (b"3 1\n", []))
 
-    def test_a_clock_that_is_set_back_over_midnight_loses_nothing(self):
-        log = self.log()
-        for start, unix in ((1, DAY - 1), (2, DAY + 1), (3, DAY - 2), (4, DAY + 2)):
-            log.write(start, b"%d 1\n" % start, unix)
-            log.join()
-        packed, today = self.folder / "0-dcf.19700101.b0070001.log.gz", self.folder / "0-dcf.19700102.b0070001.log"
-        self.assertEqual(gzip.decompress(packed.read_bytes()), b"1 1\n3 1\n")
-        self.assertEqual((self.names(), today.read_bytes()), ([packed.name, today.name, today.name + ".gz"], b"4 1\n"))
+class Put(Folder):
+    def test_what_is_put_is_synced_before_it_has_its_name(self) -> None:
+        calls: list[str] = []
+        for name in ("sync", "rename"):
+            mock.patch.object(self.host, name, lambda *_, name=name: calls.append(name)).start()
+        self.addCleanup(mock.patch.stopall)
+        disk.put(self.host, str(self.folder / "a"), b"text")
+        self.assertEqual(calls, ["sync", "rename", "sync"])
 
-    def test_a_compressed_log_that_is_damaged_holds_no_other_up(self):
-        """As where the power failed before all of it was on the disk. It stays beside its log until both are too old."""
-        whole = bytearray(gzip.compress(b"".join(b"%d 100000\n" % (place * 1_000_003) for place in range(1, 5000))))
-        for damage in ("cut off", "flipped", "another file"):
-            with self.subTest(damage=damage):
-                shutil.rmtree(self.folder)
-                self.folder.mkdir()
-                damaged = {"cut off": whole[:2000], "flipped": whole[:2000] + bytes(8) + whole[2008:], "another file": b"x" * 99}[damage]
-                (self.folder / "0-dcf.19700104.b0070000.log.gz").write_bytes(damaged)
-                for day in (4, 5):
-                    (self.folder / f"0-dcf.1970010{day}.b0070000.log").write_bytes(b"1 1\n")
-                log = self.log()
-                for day in (6, 7, 8):
-                    log.write(day, b"%d 1\n" % day, (day - 1) * DAY)
-                    log.join()
-                    if day == 6:
-                        self.assertEqual(self.names()[:3], ["0-dcf.19700104.b0070000.log", "0-dcf.19700104.b0070000.log.gz", "0-dcf.19700105.b0070000.log.gz"])
-                        self.assertEqual((self.folder / "0-dcf.19700104.b0070000.log.gz").read_bytes(), damaged)
-                        self.assertRegex(self.said.pop(), r"/0-dcf.19700104.b0070000.log can't be kept: .")
-                    self.said.clear()
-                self.assertEqual(self.names()[0], "0-dcf.19700105.b0070000.log.gz")
+    def test_a_link_that_somebody_planted_is_not_followed(self) -> None:
+        target = self.folder / "target"
+        target.write_text("precious")
+        (self.folder / "state.part").symlink_to(target)
+        (self.folder / NAME).symlink_to(target)
+        disk.put(self.host, str(self.folder / "state"), b"text")
+        self.assertEqual(target.read_text(), "precious")
+        self.assertEqual((self.folder / "state").read_bytes(), b"text")
+        log = PulseLog(self.host, str(self.folder), 0, "dcf", "b0070001")
+        log.add([Pulse(1, 1)])
+        with self.assertLogs("keeper"):
+            log.turn(self.host.now + 2)
+            log.turn(self.host.now + 2)
+        self.assertEqual(target.read_text(), "precious")
 
-    def test_a_log_is_compressed_once_where_a_keeper_was_killed_meanwhile(self):
-        path = self.folder / "0-dcf.19700101.b0070001.log"
-        for _ in range(2):
-            path.write_bytes(b"1 1\n2 1\n")
-            compress(str(path))
-        self.assertEqual(gzip.decompress((self.folder / (path.name + ".gz")).read_bytes()), b"1 1\n2 1\n")
+    def test_a_refusal_leaves_nothing(self) -> None:
+        self.host.refuses["sync"] = OSError(errno.EIO, "Input/output error")
+        with self.assertRaises(OSError):
+            disk.put(self.host, str(self.folder / "a"), b"text")
+        self.assertEqual(self.names(), [])
 
 
 if __name__ == "__main__":

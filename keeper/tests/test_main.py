@@ -13,7 +13,7 @@ import unittest
 from unittest import mock
 
 from keeper import __main__, chosen_file
-from keeper.state import State, save
+from keeper.reporter.state import State, save
 
 KEEPER = pathlib.Path(__file__).parent.parent.parent / "radio_keeper"
 
@@ -28,7 +28,8 @@ class CommandLine(unittest.TestCase):
         os.chdir(self.folder)
 
     def run_keeper(self, *words):
-        """Exit status, standard output and standard error of these words, in this process, since a start takes its time."""
+        """Exit status, standard output and standard error of these words, in this process, since a
+        start takes its time."""
         out, said = io.StringIO(), io.StringIO()
         with contextlib.redirect_stdout(out), contextlib.redirect_stderr(said):
             try:
@@ -39,7 +40,8 @@ class CommandLine(unittest.TestCase):
 
     def started(self, *words, **how):
         """The same by the script itself."""
-        done = subprocess.run([KEEPER, *words], cwd=self.folder, stderr=subprocess.PIPE, text=True, timeout=60, check=False, **how)
+        done = subprocess.run([KEEPER, *words], cwd=self.folder, stderr=subprocess.PIPE, text=True,
+                              timeout=60, **how)
         self.assertNotIn("Traceback", done.stderr)
         return done
 
@@ -49,29 +51,36 @@ class CommandLine(unittest.TestCase):
             told, out, said = self.run_keeper(command, "--help")
             self.assertEqual((told, said), (0, ""))
             self.assertIn(f"usage: radio_keeper {command}", out)
-        self.assertRegex(self.started("--version", stdout=subprocess.PIPE).stdout, r"\Aradio_keeper \S+\n\Z")
+        done = self.started("--version", stdout=subprocess.PIPE)
+        self.assertRegex(done.stdout, r"\Aradio_keeper \S+\n\Z")
 
     def test_words_that_are_not_valid(self):
-        for words in ((), ("serve",), ("status", "--yaml"), ("status", "--json", "--nagios"), ("watch", "--every", "0"), ("check", "--seconds", "x"), ("calibrate", "--minutes", "0"), ("run", "x")):
+        for words in ((), ("serve",), ("status", "--yaml"), ("status", "--json", "--nagios"),
+                      ("watch", "--every", "0"), ("check", "--seconds", "x"),
+                      ("calibrate", "--minutes", "0"), ("run", "x")):
             with self.subTest(words=words):
                 told, out, said = self.run_keeper(*words)
                 self.assertEqual((told, out), (64, ""))
                 self.assertTrue(said)
 
     def test_words_for_the_service(self):
-        for word in ("stop", "reload"):
+        for word in ("stop", "restart"):
             told, _, said = self.run_keeper(word)
-            self.assertEqual((told, said.splitlines()[-1]), (64, f"radio_keeper: there is no command {word!r}: `systemctl {word} radio_ntpd` is meant for the service"))
+            why = f"`systemctl {word} radio_ntpd` is meant for the service"
+            self.assertEqual((told, said.splitlines()[-1]),
+                             (64, f"radio_keeper: there is no command {word!r}: {why}"))
 
     def test_no_file(self):
         for command in ("run", "check", "calibrate"):
-            with self.subTest(command=command), mock.patch.object(chosen_file, "INSTALLED", "/nosuch"):
-                said = f"radio_keeper {command}: there is no keeper.toml here and no /nosuch: --config names one, and docs/FIRST_EVENING.md writes one\n"
+            with mock.patch.object(chosen_file, "INSTALLED", "/nosuch"):
+                said = (f"radio_keeper {command}: there is no keeper.toml here and no /nosuch: "
+                        "--config names one, and docs/FIRST_EVENING.md writes one\n")
                 self.assertEqual(self.run_keeper(command), (78, "", said))
 
     def test_files_that_are_refused(self):
         path = os.path.join(self.folder, "keeper.toml")
-        for text, due in (("station = 3", "station"), ("speed = 1\nstation = 'x'", "speed"), ("[", "TOML"), ("station = 'nosuch'", "nosuch")):
+        for text, due in (("station = 3", "station"), ("speed = 1\nstation = 'x'", "speed"),
+                          ("[", "TOML"), ("station = 'nosuch'", "nosuch")):
             with open(path, "w", encoding="utf-8") as file:
                 file.write(text)
             for command in ("run", "check", "calibrate"):
@@ -88,14 +97,16 @@ class CommandLine(unittest.TestCase):
     def test_an_output_that_takes_nothing(self):
         with open("/dev/full", "w", encoding="ascii") as full:
             self.assertEqual(self.started("--help", stdout=full).returncode, 71)
-            self.assertEqual(self.started("status", "--nagios", "--folder", self.folder, stdout=full).returncode, 71)
+            words = ("status", "--nagios", "--folder", self.folder)
+            self.assertEqual(self.started(*words, stdout=full).returncode, 71)
 
     def test_watch_draws_until_it_is_interrupted(self):
         save(State(written=time.time(), keeper_pid=1), os.path.join(self.folder, "state.json"))
         # What a shell runs in the background ignores SIGINT, and so does all that it starts.
         words = [KEEPER, "watch", "--every", "0.2", "--folder", self.folder]
         heeds = functools.partial(signal.signal, signal.SIGINT, signal.SIG_DFL)
-        with subprocess.Popen(words, stdout=subprocess.PIPE, stderr=subprocess.PIPE, text=True, preexec_fn=heeds) as watch:
+        with subprocess.Popen(words, stdout=subprocess.PIPE, stderr=subprocess.PIPE, text=True,
+                              preexec_fn=heeds) as watch:
             lines = [watch.stdout.readline() for _ in range(8)]
             watch.send_signal(signal.SIGINT)
             rest, said = watch.communicate(timeout=30)
@@ -104,7 +115,9 @@ class CommandLine(unittest.TestCase):
 
     def test_streams_that_are_closed(self):
         for closing in (">&-", "2>&-", "<&- >&- 2>&-"):
-            done = subprocess.run(["/bin/sh", "-c", f'"$0" --version {closing}', KEEPER], cwd=self.folder, capture_output=True, text=True, timeout=60, check=False)
+            words = ["/bin/sh", "-c", f'"$0" --version {closing}', str(KEEPER)]
+            done = subprocess.run(words, cwd=self.folder, capture_output=True, text=True,
+                                  timeout=60)
             self.assertEqual((done.returncode, done.stderr), (0, ""))
 
 

@@ -10,11 +10,11 @@ import time
 import unittest
 from unittest import mock
 
-from keeper import faces, status
-from keeper.shelter import Shelter
-from keeper.state import save
-from keeper.tests.made_station import NOW, a_good_station
-from keeper.words import Fault
+from keeper import status
+from keeper.reporter.state import save
+from keeper.tests.made_station import a_good_station
+from keeper.tests.test_station_state import facts as said_by_the_supervisor
+from keeper.errors import Fault
 
 
 class Files(unittest.TestCase):
@@ -29,9 +29,19 @@ class Files(unittest.TestCase):
             told = status.main([*words, "--folder", self.folder])
         return told, out.getvalue()
 
-    def test_all_is_renewed(self):
-        faces.renew(a_good_station(), self.folder, NOW, Shelter(print))
-        self.assertEqual(sorted(os.listdir(self.folder)), ["radio_ntpd.prom", "state.json", "status.html"])
+    def test_where_the_reporter_stands_still_the_supervisors_word_counts(self):
+        now = time.time()
+        save(a_good_station(now - 500), os.path.join(self.folder, "state.json"))
+        facts = {
+            **said_by_the_supervisor(self.folder, radios=[]), "at": now, "since": now - 900,
+            "pid": os.getpid()}
+        facts["run"]["number"] = 9
+        with open(os.path.join(self.folder, "service.json"), "w", encoding="utf-8") as file:
+            json.dump(facts, file)
+        told, said = self.run_status()
+        self.assertEqual(told, 1)
+        self.assertRegex(said, r"\AWARNING: the reporter has drawn nothing for 8 min 20 s\n")
+        self.assertIn("run 9, ", said)
 
     def test_status_in_each_form(self):
         now = time.time()
@@ -61,13 +71,28 @@ class Files(unittest.TestCase):
         for words in ((), ("--nagios",)):
             told, said = self.run_status(*words)
             self.assertEqual(told, 2)
-            self.assertRegex(said, r"CRITICAL: no keeper runs: it ended within the last \d s without a word")
+            self.assertRegex(said, "CRITICAL: no keeper runs: it ended within the last [0-9] s "
+                                   "without a word")
         self.assertIn('radio_ntpd_link_up{port="123"} 0\n', self.run_status("--prometheus")[1])
+
+    def test_how_often_a_state_is_redrawn(self):
+        said = io.StringIO()
+        with contextlib.redirect_stderr(said), self.assertRaises(SystemExit) as ended:
+            status.main(["--every", "0.1"], "watch")
+        self.assertEqual(ended.exception.code, 64)
+        self.assertIn("radio_keeper watch: --every is 0.2 to 3600 seconds\n", said.getvalue())
+
+    def test_nagios(self):
+        save(a_good_station(time.time()), os.path.join(self.folder, "state.json"))
+        self.assertEqual(self.run_status("--nagios"), (
+            0, "RADIO_NTPD OK: time from DCF, stratum 1, root dispersion 5.4 ms | "
+            "root_dispersion_123=0.005400s;;0.5 verdicts_0=58;;;0;60\n"))
 
     def test_a_process(self):
         child = subprocess.Popen(["true"])
         child.wait()
-        self.assertEqual([status.is_there(one) for one in (os.getpid(), 1, child.pid, 2**52)], [True, True, False, False])
+        pids = (os.getpid(), 1, child.pid, 2**52)
+        self.assertEqual([status.is_there(one) for one in pids], [True, True, False, False])
         with mock.patch("os.kill", side_effect=PermissionError):
             self.assertTrue(status.is_there(1))
 
@@ -85,18 +110,29 @@ class Files(unittest.TestCase):
                 with open(path, "wb") as file:
                     file.write(odd)
                 with self.assertRaisesRegex(Fault, "odd.toml: it "):
-                    status.folder_of(path)
+                    status.folders_of(path)
                 out = io.StringIO()
                 with contextlib.redirect_stdout(out):
                     self.assertEqual(status.main(["--nagios", "--config", path]), 3)
                 self.assertRegex(out.getvalue(), r"\ARADIO_NTPD UNKNOWN: [^\n|]*\n\Z")
 
+    def test_a_file_that_is_not_for_everybody(self):
+        path = os.path.join(self.folder, "keeper.toml")
+        with open(path, "w", encoding="utf-8") as file:
+            file.write('state = "/x"')
+        with mock.patch.object(status, "FILES", (path,)):
+            self.assertEqual(status.folders_of(None)[1], "/x")
+            with mock.patch.object(status.os, "access", return_value=False):
+                installed = ["/run/radio_ntpd", "/var/lib/radio_ntpd"]
+                self.assertEqual(status.folders_of(None), installed)
+
     def test_the_folder_of_a_file(self):
         path = os.path.join(self.folder, "keeper.toml")
-        for said, due in (("", f"{self.folder}/state"), ('state = "s"', f"{self.folder}/s"), ('state = "/x"', "/x")):
+        for said, due in (("", f"{self.folder}/state"), ('state = "s"', f"{self.folder}/s"),
+                          ('state = "/x"', "/x"), ('state = "s"\nruntime = "/r"', "/r")):
             with open(path, "w", encoding="utf-8") as file:
                 file.write(said)
-            self.assertEqual(status.folder_of(path), due)
+            self.assertEqual(status.folders_of(path)[0], due)
 
 
 if __name__ == "__main__":

@@ -3,7 +3,7 @@
 import contextlib
 from typing import Callable, ContextManager, NamedTuple
 
-from ..commands import Ended
+from lab.model.commands import Ended
 
 Files = dict[str, bytes]
 

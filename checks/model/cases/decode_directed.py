@@ -2,12 +2,12 @@
 
 from typing import Callable, Iterator
 
-from .. import dates
-from ..commands import decode
-from ..fields import Coded
-from ..marks import CLASSES, Symbol
-from ..receiver import PLANS
-from ..spelling import Tape
+from lab.model import dates
+from lab.model.commands import decode
+from lab.model.fields import Coded
+from lab.model.marks import CLASSES, Symbol
+from lab.model.receiver import PLANS
+from lab.model.spelling import Tape
 from .case import Case
 from .frames import BREAKS, Edit, flip, number
 

@@ -4,8 +4,8 @@ logs.
 
 from typing import Callable, Iterator
 
-from .. import dates, plan_dcf, plan_wwvb
-from ..spelling import Tape
+from lab.model import dates, plan_dcf, plan_wwvb
+from lab.model.spelling import Tape
 from .case import Case
 from .decode_directed import NOON, changed, of_log, rule, spelt
 from .frames import flip, set_to

@@ -2,12 +2,12 @@
 
 import random
 
-from .. import dates
-from ..entries import Entry
-from ..fields import Coded
-from ..marks import CLASSES, Symbol
-from ..receiver import PLANS
-from ..spelling import SECOND, WIDTHS, Tape
+from lab.model import dates
+from lab.model.entries import Entry
+from lab.model.fields import Coded
+from lab.model.marks import CLASSES, Symbol
+from lab.model.receiver import PLANS
+from lab.model.spelling import SECOND, WIDTHS, Tape
 from .case import Case
 from .decode_directed import of_log
 from .frames import BREAKS

@@ -4,7 +4,7 @@ here and there.
 
 import random
 
-from ..spelling import SECOND, Tape
+from lab.model.spelling import SECOND, Tape
 from .case import Case
 from .decode_directed import spelt
 from .drawn import EVENTS, edited, kinds_of, spoil

@@ -2,9 +2,9 @@
 
 from typing import Callable
 
-from .. import plan_dcf as dcf, plan_msf as msf, plan_wwvb as wwvb
-from ..fields import Bits, Field
-from ..receiver import PLANS
+from lab.model import plan_dcf as dcf, plan_msf as msf, plan_wwvb as wwvb
+from lab.model.fields import Bits, Field
+from lab.model.receiver import PLANS
 
 Edit = Callable[[Bits], None]
 

@@ -2,10 +2,10 @@
 
 from typing import Sequence
 
-from ..commands import migrate
-from ..entries import Entry, numbered
-from ..page import Journal
-from ..units import SECOND
+from lab.model.commands import migrate
+from lab.model.entries import Entry, numbered
+from lab.model.page import Journal
+from lab.model.units import SECOND
 from .case import Case
 
 # The second at which the host's counter was 0: 2026-01-01 12:00 UTC.

@@ -3,13 +3,13 @@
 import random
 from typing import Iterator, Sequence
 
-from .. import words
-from ..commands import LIMIT, Ended, decode, drill, ended, migrate, replay, serve
+from lab.model import words
+from lab.model.commands import LIMIT, Ended, decode, drill, ended, migrate, replay, serve
 from .case import Case, Files
 from .decode_directed import spelt
 from .journals import station
 from .scripts import request
-from ..spelling import Tape
+from lab.model.spelling import Tape
 
 FILES: Files = {
     "log": Tape("dcf", [spelt("dcf")]).log(),

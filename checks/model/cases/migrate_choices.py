@@ -2,8 +2,8 @@
 
 from typing import Iterator
 
-from ..entries import Entry
-from ..units import LEAST_DISPERSION
+from lab.model.entries import Entry
+from lab.model.units import LEAST_DISPERSION
 from .case import Case
 from .journals import of, sample, verdict
 from .migrate_pages import DCF, MINUTE, SERVER, eight

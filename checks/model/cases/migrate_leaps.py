@@ -4,8 +4,8 @@ armed.
 
 from typing import Iterator
 
-from .. import dates
-from ..entries import Entry
+from lab.model import dates
+from lab.model.entries import Entry
 from .case import Case
 from .journals import BEGAN, of, verdict
 

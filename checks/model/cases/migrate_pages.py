@@ -2,8 +2,8 @@
 
 from typing import Iterator, Sequence
 
-from ..entries import Entry
-from ..units import LEAST_DISPERSION, MOST_RATE, SECOND, local_span
+from lab.model.entries import Entry
+from lab.model.units import LEAST_DISPERSION, MOST_RATE, SECOND, local_span
 from .case import Case
 from .journals import BEGAN, of, sample, verdict
 

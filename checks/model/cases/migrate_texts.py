@@ -2,7 +2,7 @@
 
 from typing import Iterator
 
-from ..entries import Entry
+from lab.model.entries import Entry
 from .case import Case
 from .journals import of_text, sample, station, text, verdict
 

@@ -2,8 +2,8 @@
 
 from typing import Iterator
 
-from ..exchanges import FAR, FIRST_ERA_SECOND
-from ..units import local_span
+from lab.model.exchanges import FAR, FIRST_ERA_SECOND
+from lab.model.units import local_span
 from .case import Case
 from .journals import BASE, station
 from .scripts import answer, exchange, exchanges_of, of, request

@@ -2,18 +2,17 @@
 
 from typing import Sequence
 
-from ..commands import LIMIT, replay
-from ..exchanges import transmit_of
-from ..header import Header
-from ..replies import digest
-from ..spelling import SECOND, Tape
+from lab.model.commands import LIMIT, replay
+from lab.model.exchanges import transmit_of
+from lab.model.header import Header
+from lab.model.replies import digest
+from lab.model.spelling import SECOND, Tape
 from .case import Case
 from .decode_directed import spelt
 from .journals import BASE, BEGAN
-from ..units import local_span
+from lab.model.units import local_span
+from lab.packets import QUERY
 
-TRANSMIT = 0x1122334455667788
-QUERY = bytes.fromhex("230006ec") + bytes(36) + TRANSMIT.to_bytes(8, "big")
 # The moment at which five minutes have been heard.
 ANCHOR = 360 * SECOND
 # A server's answer that is taken; its origin and its times come with each exchange.

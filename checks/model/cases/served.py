@@ -3,13 +3,13 @@
 import random
 from typing import Iterator
 
-from .. import dates
-from ..commands import LIMIT, drill, serve
-from ..leap_list import MOST_BYTES, PAST_SECOND
+from lab.model import dates
+from lab.model.commands import LIMIT, drill, serve
+from lab.model.leap_list import MOST_BYTES, PAST_SECOND
 from .case import Case
 from .drawn import log
 from .decode_directed import NOON, spelt
-from ..spelling import Tape
+from lab.model.spelling import Tape
 from .journals import LETTERS
 
 FIRST, SECOND, THIRD = (dates.second_of(*date) for date in ((2012, 7, 1), (2015, 7, 1), (2017, 1, 1)))

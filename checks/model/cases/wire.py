@@ -9,21 +9,22 @@ import threading
 import time
 from typing import Callable, Iterator, Sequence
 
-from .. import exchanges, replies, station as stations
-from ..clients import DENY, PASS, RATE, Gate
-from ..commands import Ended, due_log, ended
-from ..entries import Entry, numbered
-from ..exchanges import Event
-from ..header import LENGTH, read
-from ..notes import met
-from ..page import Page
-from ..spelling import Tape
+from lab.client import HOST as LOOPBACK, free_port, socket_on, to_server
+from lab.model import exchanges, replies, station as stations
+from lab.model.clients import DENY, PASS, RATE, Gate
+from lab.model.commands import Ended, due_log, ended
+from lab.model.entries import Entry, numbered
+from lab.model.exchanges import Event
+from lab.model.header import LENGTH, read
+from lab.model.notes import met
+from lab.model.page import Page
+from lab.model.spelling import Tape
 from .case import Case, Files
 from .decode_directed import NOON, spelt
 from .journals import LETTERS
 from .scripts import QUERY, answer, sealed
 
-LOOPBACK, CLIENT = "127.0.0.1", 0x7F000001
+CLIENT = 0x7F000001
 # The most hearings of a round, and how long a server's socket waits for a request, in seconds.
 MOST_HEARINGS, WAIT = 8, 20.0
 # Of each poll in turn, what is sent: whether by a stranger, and the datagram by the moment of asking.
@@ -46,8 +47,7 @@ class Server:
     def __call__(self) -> Iterator[Files]:
         self.heard = []
         with contextlib.ExitStack() as stack:
-            own, stranger = (stack.enter_context(socket.socket(socket.AF_INET, socket.SOCK_DGRAM)) for _ in range(2))
-            own.bind((LOOPBACK, 0))
+            own, stranger = (stack.enter_context(socket_on()) for _ in range(2))
             own.settimeout(WAIT)
             serving = threading.Thread(target=self._serve, args=(own, stranger))
             serving.start()
@@ -133,9 +133,7 @@ class Client:
     @contextlib.contextmanager
     def __call__(self) -> Iterator[Files]:
         self.got = []
-        with socket.socket(socket.AF_INET, socket.SOCK_DGRAM) as trial:
-            trial.bind((LOOPBACK, 0))
-            port = trial.getsockname()[1]
+        port = free_port()
         asking = threading.Thread(target=self._ask, args=(port,))
         asking.start()
         yield {"station": self.station(port), "log": self.log}
@@ -146,9 +144,7 @@ class Client:
         return f"{self.top}{radio}[[link]]\nport = {port}\n{self.tables}".encode()
 
     def _ask(self, port: int) -> None:
-        with socket.socket(socket.AF_INET, socket.SOCK_DGRAM) as client:
-            client.connect((LOOPBACK, port))
-            client.settimeout(WAIT)
+        with to_server(port, WAIT) as client:
             for datagram in self.datagrams:
                 self.got.append(_answer(client, datagram))
                 if self.got[-1] is None and not replies.dropped(datagram):

@@ -49,8 +49,7 @@ const OF_THE_LAST_SEED: [(usize, u64); 3] = [
     (1630524, 0x467f_d524_0d56_1162),
 ];
 
-// The lengths and the checksums of logs that a separate program made by the same description (`bench/made_log.py`), for three
-// seeds.
+// The lengths and the checksums of logs that a separate program made by the same description, for three seeds.
 #[test]
 fn days_are_those_of_another_program(rt: HostRuntime) -> Result<(), Fail> {
     let mut logs = make_logs(&rt, rt.alloc(), 7)?;

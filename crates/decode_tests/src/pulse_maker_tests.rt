@@ -67,8 +67,8 @@ fn is_made(rt: &impl Abort, alloc: Global, plan: Plan, lines: u64, length: usize
     same(rt, found, (Ok(lines), length, sum));
 }
 
-// The numbers of lines, the lengths and the checksums of logs that a separate program made by the same description
-// (`bench/made_log.py`). Minute 7 of eight is damaged.
+// The numbers of lines, the lengths and the checksums of logs that a separate program made by the same description.
+// Minute 7 of eight is damaged.
 #[test]
 fn logs_are_those_of_another_program(rt: HostRuntime) {
     is_made(&rt, rt.alloc(), Plan::Dcf, 474, 7960, 0x6141_14cb_f4a1_ee65);

@@ -1,4 +1,4 @@
-//! Tests of `drill`. What it prints of a day was worked out by a program apart (`bench/drill_model.py`) from the minutes as they are spelt. Each test
+//! Tests of `drill`. What it prints of a day was worked out by a program apart from the minutes as they are spelt. Each test
 //! has one drill, since a day takes long where it is interpreted. The first opening would fail: a drill opens nothing.
 use crate::scene::{plays, written_of};
 use std::alloc::Global;

@@ -1,2 +1,3 @@
 -- Lemmas that several proofs of this crate use.
 pub mod HeldLaws
+pub mod WordLaws

@@ -1,5 +1,5 @@
 -- What a link that its supervisor holds receives and sends, and how long a request waits.
-use Rattle.std.specs.Prelude.{◌≡◌, ◌≤◌, ℕ, Bool, true, false, Option, None, Some, Result, IsOk, List, [], ◌∷◌, length}
+use Rattle.std.specs.Prelude.{◌≡◌, ◌≤◌, ℕ, Bool, true, false, Option, None, Some, Result, IsOk, List, [], ◌∷◌, length, take}
 use Rattle.feed_link.specs.declared.outside.Address.{Address}
 use Rattle.feed_link.specs.declared.link.Hearing.{Hearing}
 use Rattle.feed_link.specs.declared.link.Hearing.TheVariants.{Datagram, Quiet, End}
@@ -9,7 +9,8 @@ use Rattle.host_links.specs.Sockets.Passed.{GaveNone}
 use Rattle.service_links.specs.declared.link.Waited.{Waited}
 use Rattle.service_links.specs.declared.link.Waited.TheVariants.{Came, Silence, Over}
 use Rattle.service_links.specs.declared.pace.Pace.{Pace}
-use Rattle.service_links.specs.Paces.{wait_at}
+use Rattle.service_links.specs.declared.asking.Asking.{Asking}
+use Rattle.service_links.specs.Paces.{heeding, is_never, kiss_for, wait_at}
 
 -- a link receives what its socket gave, and of a link that ends, the socket gave nothing that can be answered
 abbrev pub GivesUntilEnd : Option (List Passed) → Option (List Passed) → Hearing → List ℕ → Type 0
@@ -34,6 +35,19 @@ GivesWaited before now Over piece = Repeats is_passed_over before now
 abbrev pub PostsUntilEnd : {T E : Type 0} → Bool → Option (List Passed) → Option (List Passed) → Result T E → Address → List ℕ → Type 0
 PostsUntilEnd true before now result to bytes = (now ≡ before) × IsOk result
 PostsUntilEnd false before now result to bytes = Posts before now result to bytes
+
+-- what a link to a server keeps after a hearing: it heeds the kiss code of a datagram
+abbrev pub after_hearing : Option Asking → Hearing → List ℕ → Option Asking
+after_hearing asking (Datagram arrival) piece = heeding asking arrival.at arrival.from (take arrival.length piece)
+after_hearing asking Quiet piece = asking
+after_hearing asking End piece = asking
+
+-- whether a datagram for a link to a server says that no more requests are wanted
+abbrev pub ends_asking : Option Asking → Hearing → List ℕ → Bool
+ends_asking None hearing piece = false
+ends_asking (Some asking) (Datagram arrival) piece = is_never (kiss_for asking arrival.from (take arrival.length piece))
+ends_asking (Some asking) Quiet piece = false
+ends_asking (Some asking) End piece = false
 
 -- the counter was read, and no request had to wait then
 pub record NeedsNoWait (pace : Pace) (start latest : ℕ) : Type 0 where

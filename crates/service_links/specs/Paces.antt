@@ -43,6 +43,14 @@ wait_after p moment (Some asked) = if p.free == 0 then pace_at p moment - (momen
 abbrev pub wait_at : Pace → ℕ → ℕ
 wait_at p moment = wait_after p moment p.asked
 
+-- a pace given in seconds, before the first request; four requests need not wait
+abbrev pub new_pace : ℕ → Pace
+new_pace seconds = record { given = seconds * 1000000; raised = 0; raised_at = None; free = 4; asked = None }
+
+-- what a new link on this port keeps: one of port 0 asks a server
+abbrev pub new_asking : ℕ → ℕ → Option Asking
+new_asking port seconds = if port == 0 then Some (record { pace = new_pace seconds; request = None }) else None
+
 -- after a request
 abbrev pub asked_at : Pace → ℕ → Pace
 asked_at p moment = record p { free = p.free - 1; asked = Some moment }
@@ -62,6 +70,19 @@ kiss_with h asked = if h.mode == 4 && h.stratum == 0 && h.origin.0 == asked.0 th
 -- timestamp that of the request.
 abbrev pub kiss_in : List ℕ → Stamp → Option Kiss
 kiss_in bytes asked = if nat_lt (length bytes) 48 then None else kiss_with (fields bytes) asked
+
+-- the request that bytes to a server are
+abbrev pub request_in : Address → List ℕ → Option Request
+request_in to bytes = if nat_lt (length bytes) 48 then None else Some (record { to = to; stamp = (fields bytes).transmit })
+
+-- what a link to a server keeps after it has sent these bytes
+abbrev pub sending : Asking → Address → List ℕ → Asking
+sending asking to bytes = record asking { request = request_in to bytes }
+
+-- the same of any link
+abbrev pub noting : Option Asking → Address → List ℕ → Option Asking
+noting None to bytes = None
+noting (Some asking) to bytes = Some (sending asking to bytes)
 
 abbrev pub is_from : Request → Address → Bool
 is_from request from = from.ip == request.to.ip && from.port == request.to.port

@@ -1,6 +1,6 @@
 -- What a supervisor's words ask of a run. A number is in decimal, without leading zeros.
-use Rattle.std.specs.Prelude.{◌≡◌, ◌≢◌, ◌==◌, ◌||◌, ◌≤◌, ℕ, Bool, true, false, Option, None, Some, List, ◌++◌, codes, decimal}
-use Rattle.std.specs.List.{list_any}
+use Rattle.std.specs.Prelude.{◌≡◌, ◌≢◌, ◌==◌, ◌||◌, ◌≤◌, ℕ, Bool, true, false, Option, None, Some, List, [], ◌∷◌, ◌++◌, codes, decimal, take, drop, length, if◌then◌else◌}
+use Rattle.std.specs.List.{list_any, slice_split}
 use Rattle.service_links.specs.declared.word.Word.{Word}
 use Rattle.service_links.specs.declared.word.Word.TheVariants.{Socket, Ask, Go, End, Pace}
 use Rattle.service_links.specs.declared.word.Fault.{Fault}
@@ -56,7 +56,7 @@ is_excluded words word = list_any (λ other. excludes other word) words
 
 -- a word that may follow others, with its text
 pub record Follows (words : List Word) (word : Word) (text : List ℕ) : Type 0 where
-  pub lawful : IsWord word
+  pub valid : IsWord word
   pub is : text ≡ text_of word
   pub free : is_excluded words word ≡ false
 
@@ -64,3 +64,21 @@ pub record Follows (words : List Word) (word : Word) (text : List ℕ) : Type 0 
 abbrev pub IsBad : List Word → List ℕ → Fault → Type 0
 IsBad words text Unknown = (word : Word) → IsWord word → text ≢ text_of word
 IsBad words text Twice = (word : Word) × IsWord word × (text ≡ text_of word) × (is_excluded words word ≡ true)
+
+-- the texts between spaces; an empty text has none
+abbrev pub texts_in : List ℕ → List (List ℕ)
+texts_in text = if length text == 0 then [] else slice_split (λ b. b == 32) text
+
+-- texts that are words, each of which may follow those before it; all words, with those before the first text
+abbrev pub AreWords : List Word → List (List ℕ) → List Word → Type 0
+AreWords before [] all = all ≡ before
+AreWords before (text ∷ texts) all = (word : Word) × Follows before word text × AreWords (before ++ (word ∷ [])) texts all
+
+-- the first bad one of texts: those before it are words
+pub record IsFirstBad (before : List Word) (texts : List (List ℕ)) (bad : List ℕ) (fault : Fault) : Type 0 where
+  pub place : ℕ
+  pub words : List Word
+  pub valid : AreWords before (take place texts) words
+  pub later : List (List ℕ)
+  pub stands : drop place texts ≡ bad ∷ later
+  pub is : IsBad words bad fault

@@ -1,7 +1,6 @@
 //! What a link that asks a server keeps.
-ghost use Rattle.std.specs.Prelude.{◌≡◌, None, Some, nat_lt, length, if◌then◌else◌};
-ghost use Rattle.ntp_packet.specs.Layout.{fields};
-ghost use Rattle.service_links.specs.Paces.{kiss_for, kiss_in, after_kiss, asked_at, is_from, is_never, wait_at};
+ghost use Rattle.std.specs.Prelude.{◌≡◌, None, if◌then◌else◌};
+ghost use Rattle.service_links.specs.Paces.{kiss_for, kiss_in, after_kiss, asked_at, is_from, is_never, sending};
 
 use crate::pace::stamp_of;
 use crate::{Kiss, Pace, kiss_of};
@@ -88,10 +87,7 @@ impl Asking {
 
     /// These bytes are sent as a request.
     pub fn send(&mut self, to: Address, bytes: &[u8])
-        ensures pace { self.new.pace ≡ self.old.pace }
-        ensures request { self.new.request ≡ if nat_lt (length bytes.now) 48
-            then None
-            else Some (record { to = to; stamp = (fields bytes.now).transmit }) }
+        ensures { self.new ≡ sending self.old to bytes.now }
     {
         self.request = match stamp_of(bytes) {
             Some(stamp) => Some(Request { to, stamp }),

@@ -1,5 +1,5 @@
 //! What a supervisor hands over to its run.
-ghost use Rattle.std.specs.Prelude.{◌<◌, ◌^◌};
+ghost use Rattle.std.specs.Prelude.{◌≡◌, ◌<◌, ◌^◌};
 
 use crate::{BadWord, Fault, Signal, Word, read_words};
 use decimal_text::whole_number;
@@ -73,20 +73,24 @@ impl HandedSocket {
         socket.set_read_timeout(Some(Duration::from_millis(WAIT)))?;
         Ok(HandedSocket { socket })
     }
+
+    // Another process that has the socket may have told it not to wait.
+    #[cold]
+    #[inline(never)]
+    fn wait_again(&self, kind: ErrorKind) {
+        if kind == ErrorKind::WouldBlock {
+            let _ = self.socket.set_nonblocking(false);
+        }
+    }
 }
 
 impl DatagramSocket for HandedSocket {
     fn receive(&mut self, piece: &mut [u8]) -> io::Result<(usize, SocketAddr)> {
-        match self.socket.recv_from(piece) {
-            Ok(received) => Ok(received),
-            Err(e) => {
-                // Another process that has the socket may have told it not to wait.
-                if e.kind() == ErrorKind::WouldBlock {
-                    let _ = self.socket.set_nonblocking(false);
-                }
-                Err(e)
-            }
+        let received = self.socket.recv_from(piece);
+        if let Err(e) = &received {
+            self.wait_again(e.kind());
         }
+        received
     }
 
     fn transmit(&mut self, to: SocketAddr, bytes: &[u8]) -> io::Result<usize> {
@@ -184,7 +188,9 @@ impl Handed {
     }
 
     /// The seconds between two requests to a server.
-    pub fn pace(&self) -> u16 {
+    pub fn pace(&self) -> u16
+        ensures { result ≡ self.now.pace }
+    {
         self.pace
     }
 }

@@ -1,12 +1,12 @@
 //! A link of a run that a supervisor holds.
-ghost use Rattle.std.specs.Prelude.{◌≡◌, ◌≤◌, ◌⊎◌, ℕ, true, false, min, Option, None, Some, length, IfOk, IfSome, MatchOption, MatchResult, Ok, take, if◌then◌else◌};
+ghost use Rattle.std.specs.Prelude.{◌≡◌, ◌≤◌, ◌⊎◌, ℕ, true, min, Option, None, Some, length, IfOk, IfSome, MatchOption, MatchResult, Ok, take, if◌then◌else◌};
 ghost use Rattle.feed_link.specs.Faults.{RoseByOne, HasCause};
 ghost use Rattle.feed_link.specs.Links.{Hears, IsDeaf, TellsMoment, Sends};
 ghost use Rattle.feed_link.specs.declared.link.Hearing.TheVariants.{End};
 ghost use Rattle.host_links.specs.Real.{socket_state, file_number};
 ghost use Rattle.host_links.specs.Sockets.{PassesOver, Repeats, is_passed_over, moment_of};
-ghost use Rattle.service_links.specs.Held.{GivesPart, GivesUntilEnd, GivesWaited, PostsUntilEnd, NeedsNoWait};
-ghost use Rattle.service_links.specs.Paces.{after_kiss, asked_at, heeding, is_never, kiss_for};
+ghost use Rattle.service_links.specs.Held.{GivesPart, GivesUntilEnd, GivesWaited, PostsUntilEnd, NeedsNoWait, after_hearing, ends_asking};
+ghost use Rattle.service_links.specs.Paces.{after_kiss, asked_at, heeding, is_never, kiss_for, noting, sending};
 ghost use Rattle.service_links.specs.declared.link.Waited.TheVariants.{Silence, Over};
 
 use crate::{Asking, Pace, Watch};
@@ -79,6 +79,8 @@ impl<'a, R: Clock, S: DatagramSocket + Drop> ServiceLink<'a, R, S> {
     }
 
     // A call failed.
+    #[cold]
+    #[inline(never)]
     fn fail(&mut self) -> Failed
         ensures faults { RoseByOne self.old.faults self.new.faults }
         ensures later { self.old.faults ≤ self.new.faults }
@@ -97,6 +99,7 @@ impl<'a, R: Clock, S: DatagramSocket + Drop> ServiceLink<'a, R, S> {
     }
 
     // The moment now.
+    #[inline(always)]
     fn now(&self) -> Local
         ensures later { self.now.latest ≤ result }
         ensures value { (counted : Option ℕ) × (result ≡ moment_of self.now.start self.now.latest counted) }
@@ -128,6 +131,29 @@ impl<'a, R: Clock, S: DatagramSocket + Drop> ServiceLink<'a, R, S> {
         None
     }
 
+    // Looks at the end where that is due, after a datagram that cannot be answered.
+    #[cold]
+    #[inline(never)]
+    fn pass_over(&mut self) -> Option<Waited>
+        ensures over { result ≡ if self.new.watch.is_over then Some Over else None }
+        ensures others { self.new ≡ record self.old { watch = self.new.watch } }
+    {
+        let now = self.now();
+        self.watch.look_when_due(now);
+        self.over()
+    }
+
+    // Looks at the end, after so many waits without a datagram.
+    #[cold]
+    #[inline(never)]
+    fn wait_on(&mut self, waits: u32) -> Option<Waited>
+        ensures waited { MatchOption result (Unit {0}) (λ waited. waited ≡ if self.new.watch.is_over then Over else Silence) }
+        ensures others { self.new ≡ record self.old { watch = self.new.watch } }
+    {
+        self.watch.look();
+        self.silence(waits)
+    }
+
     // Calls the socket once, and looks at the end where no datagram came that can be answered. Returns None where the waiting goes
     // on.
     fn wait_once(&mut self, piece: &mut [u8], waits: &mut u32) -> Result<Option<Waited>, Failed>
@@ -139,15 +165,10 @@ impl<'a, R: Clock, S: DatagramSocket + Drop> ServiceLink<'a, R, S> {
     {
         match receive_once(&mut self.socket, piece) {
             Ok(Received::Answerable(from, length)) => Ok(Some(Waited::Came(from, length))),
-            Ok(Received::PassedOver) => {
-                let now = self.now();
-                self.watch.look_when_due(now);
-                Ok(self.over())
-            }
+            Ok(Received::PassedOver) => Ok(self.pass_over()),
             Ok(Received::Nothing) => {
                 *waits = waits.saturating_add(1);
-                self.watch.look();
-                Ok(self.silence(*waits))
+                Ok(self.wait_on(*waits))
             }
             Err(Failed) => Err(Failed),
         }
@@ -173,6 +194,7 @@ impl<'a, R: Clock, S: DatagramSocket + Drop> ServiceLink<'a, R, S> {
     }
 
     // Heeds the kiss code of a datagram that came at the latest moment.
+    #[inline(never)]
     fn heed(&mut self, mut asking: Asking, from: Address, bytes: &[u8])
         ensures asking { self.new.asking ≡ Some (after_kiss asking self.old.latest (kiss_for asking from bytes.now)) }
         ensures never { is_never (kiss_for asking from bytes.now) ≡ true → self.new.watch.is_over ≡ true }
@@ -233,6 +255,7 @@ impl<'a, R: Clock, S: DatagramSocket + Drop> ServiceLink<'a, R, S> {
     }
 
     // A request is made now, after it has waited, or after the link has ended.
+    #[inline(never)]
     fn ask(&mut self, mut asking: Asking) -> Local
         ensures paced { (self.new.watch.is_over ≡ true) ⊎ NeedsNoWait asking.pace self.old.start self.old.latest }
         ensures over { self.old.watch.is_over ≡ true → self.new.watch.is_over ≡ true }
@@ -249,14 +272,13 @@ impl<'a, R: Clock, S: DatagramSocket + Drop> ServiceLink<'a, R, S> {
     }
 
     // These bytes are sent as a request.
-    fn note(&mut self, to: Address, bytes: &[u8])
+    #[inline(never)]
+    fn note(&mut self, mut asking: Asking, to: Address, bytes: &[u8])
+        ensures asking { self.new.asking ≡ Some (sending asking to bytes.now) }
         ensures others { self.new ≡ record self.old { asking = self.new.asking } }
-        ensures pace { IfSome self.old.asking (λ a. IfSome self.new.asking (λ b. b.pace ≡ a.pace)) }
     {
-        if let Some(mut asking) = self.asking {
-            asking.send(to, bytes);
-            self.asking = Some(asking);
-        }
+        asking.send(to, bytes);
+        self.asking = Some(asking);
     }
 }
 
@@ -294,6 +316,10 @@ impl<R: Clock + Sync, S: DatagramSocket + Send + Drop> Link for ServiceLink<'_, 
         ensures ended { self.old.watch.is_over ≡ true → result ≡ Ok End }
         ensures over { IfOk result (λ hearing. hearing ≡ End → self.new.watch.is_over ≡ true) }
         ensures start { self.new.start ≡ self.old.start }
+
+        // A link to a server heeds its kiss codes.
+        ensures heeds { IfOk result (λ hearing. self.new.asking ≡ after_hearing self.old.asking hearing piece.new) }
+        ensures never { IfOk result (λ hearing. ends_asking self.old.asking hearing piece.new ≡ true → self.new.watch.is_over ≡ true) }
     {
         self.watch.begin(self.rt);
         self.watch.look_when_due(self.latest);
@@ -342,11 +368,16 @@ impl<R: Clock + Sync, S: DatagramSocket + Send + Drop> Link for ServiceLink<'_, 
         ensures socket { PostsUntilEnd self.old.watch.is_over (S.passed self.old.socket) (S.passed self.new.socket) result to bytes.now }
         ensures over { self.new.watch ≡ self.old.watch }
         ensures start { self.new.start ≡ self.old.start }
+
+        // A link to a server keeps the request.
+        ensures asking { self.new.asking ≡ if self.old.watch.is_over then self.old.asking else noting self.old.asking to bytes.now }
     {
         if self.watch.is_over {
             return Ok(());
         }
-        self.note(to, bytes);
+        if let Some(asking) = self.asking {
+            self.note(asking, to, bytes);
+        }
         match send_whole(&mut self.socket, to, bytes) {
             Ok(()) => Ok(()),
             Err(Failed) => Err(self.fail()),

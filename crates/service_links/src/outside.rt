@@ -5,6 +5,7 @@ ghost use Rattle.feed_link.specs.Openings.{GrowsBy, IsNext, answered, failed};
 ghost use Rattle.feed_link.specs.Openings.Wanted.{LinkAt};
 ghost use Rattle.feed_link.specs.Openings.State.{OfLink};
 ghost use Rattle.host_links.specs.Real.{host_state, socket_state, file_number};
+ghost use Rattle.service_links.specs.Paces.{new_asking};
 
 use crate::{Handed, HandedSocket, Pace, Reason, ServiceLink, Watch};
 use feed_link::{Failed, OpenGate, Outside};
@@ -113,7 +114,8 @@ fn link_of<'a, R: Clock>(
     socket: HandedSocket,
     start: Local,
 ) -> ServiceLink<'a, R, HandedSocket>
-    ensures { (result.start ≡ start) × (result.latest ≡ start) × (result.faults ≡ 0) × (result.watch.is_over ≡ false) }
+    ensures moments { (result.start ≡ start) × (result.latest ≡ start) × (result.faults ≡ 0) × (result.watch.is_over ≡ false) }
+    ensures asking { result.asking ≡ new_asking port handed.now.pace }
 {
     if port == 0 {
         let watch = Watch::new(handed.ask(), handed.end());
@@ -161,6 +163,9 @@ where
         // Its moments count from the start on, and it has not ended.
         ensures made { IfOk result
             (λ net. (net.start ≡ start) × (net.latest ≡ start) × (net.watch.is_over ≡ false)) }
+
+        // One of port 0 asks a server, at the pace that was handed over.
+        ensures asking { IfOk result (λ net. net.asking ≡ new_asking port self.old.handed.now.pace) }
     {
         match socket_of(self.rt, self.handed, port) {
             Ok(socket) => Ok(link_of(self.rt, self.handed, port, socket, start)),

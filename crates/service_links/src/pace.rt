@@ -1,7 +1,7 @@
 //! When a link asks its server.
-ghost use Rattle.std.specs.Prelude.{◌≡◌, ◌==◌, ◌*◌, ◌-◌, ◌<◌, length, None, Some, nat_lt, IfSome, if◌then◌else◌};
+ghost use Rattle.std.specs.Prelude.{◌≡◌, ◌==◌, ◌-◌, ◌<◌, length, None, Some, nat_lt, if◌then◌else◌};
 ghost use Rattle.ntp_packet.specs.Layout.{fields};
-ghost use Rattle.service_links.specs.Paces.{kiss_in, kiss_with, kiss_by, pace_at, wait_at, asked_at, slowed_at, doubled};
+ghost use Rattle.service_links.specs.Paces.{kiss_in, kiss_with, kiss_by, pace_at, wait_at, asked_at, slowed_at, doubled, new_pace};
 
 use ntp_packet::{Header, SERVER, read};
 use tick_units::{Local, Stamp};
@@ -95,13 +95,7 @@ pub struct Pace {
 impl Pace {
     /// So many seconds between two requests, after four that need not wait.
     pub fn new(seconds: u16) -> Pace
-        ensures { result ≡ record {
-          given = seconds * 1000000;
-          raised = 0;
-          raised_at = None;
-          free = 4;
-          asked = None;
-        } }
+        ensures { result ≡ new_pace seconds }
     {
         Pace {
             given: u64::from(seconds) * SECOND,

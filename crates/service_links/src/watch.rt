@@ -27,7 +27,7 @@ pub struct Watch<'a> {
 impl<'a> Watch<'a> {
     /// A link begins at the one signal and ends at the other. Without them it begins at once, and never ends.
     pub fn new(begin: Option<&'a Signal>, end: Option<&'a Signal>) -> Watch<'a>
-        ensures { result.is_over ≡ false }
+        ensures { result ≡ record { begin = begin.entry; end = end.entry; looked = 0; is_over = false } }
     {
         Watch {
             begin,
@@ -38,6 +38,7 @@ impl<'a> Watch<'a> {
     }
 
     /// Looks at the end.
+    #[inline(never)]
     pub fn look(&mut self)
         ensures { self.old.is_over ≡ true → self.new.is_over ≡ true }
     {
@@ -68,6 +69,8 @@ impl<'a> Watch<'a> {
     }
 
     // Waits for the beginning, or for the end.
+    #[cold]
+    #[inline(never)]
     fn wait<R: Clock>(&mut self, rt: &R)
         ensures { self.old.is_over ≡ true → self.new.is_over ≡ true }
     {

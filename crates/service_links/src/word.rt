@@ -1,6 +1,6 @@
 //! The words that a supervisor writes for its run.
-ghost use Rattle.std.specs.Prelude.{◌≡◌, ℕ, ◌≤◌, IfSome, MatchResult, Some, decimal};
-ghost use Rattle.service_links.specs.Words.{Follows, IsBad, IsWord, descriptor_of, excludes, is_excluded, is_same, is_twice, text_of};
+ghost use Rattle.std.specs.Prelude.{◌≡◌, ℕ, ◌≤◌, IfOk, IfSome, MatchResult, Some, decimal};
+ghost use Rattle.service_links.specs.Words.{AreWords, Follows, IsBad, IsFirstBad, IsWord, descriptor_of, excludes, is_excluded, is_same, is_twice, text_of, texts_in};
 ghost use Rattle.service_links.specs.declared.word.Word as word;
 
 use decimal_text::whole_number;
@@ -154,7 +154,11 @@ fn judge(words: &[Word], text: &[u8]) -> Result<Word, Fault>
 pub fn read_words<'a>(
     mut words: Vec<Word>,
     text: &'a str,
-) -> Result<Result<Vec<Word>, BadWord<'a>>, AllocError> {
+) -> Result<Result<Vec<Word>, BadWord<'a>>, AllocError>
+    ensures { IfOk result (λ read. MatchResult read
+        (λ all. AreWords words.items (texts_in text.now) all.items)
+        (λ bad. IsFirstBad words.items (texts_in text.now) bad.text.now bad.fault)) }
+{
     if text.is_empty() {
         return Ok(Ok(words));
     }

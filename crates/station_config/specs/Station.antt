@@ -59,6 +59,14 @@ feed_count station = length station.radios + length station.servers + length (le
 abbrev pub leap_feed : StationFields → ℕ
 leap_feed station = length station.radios + length station.servers
 
+-- the numbers of a top table within their bounds
+abbrev pub AreWithin : TopNumbers → Type 0
+AreWithin top =
+    (1 ≤ top.bound) × (top.bound ≤ 16000)
+    × (top.start ≤ 2 ^ 49)
+    × (top.gap ≤ 60000000)
+    × (1 ≤ top.clients) × (top.clients ≤ 65536)
+
 -- a station within its bounds
 pub record IsStation (station : StationFields) : Type 0 where
   pub sources : feed_count station ≤ 16
@@ -67,12 +75,7 @@ pub record IsStation (station : StationFields) : Type 0 where
   pub keys : length station.keys ≤ 8
   pub apart : AreApart station.keys
   pub delays : All (λ r. r.delay ≤ 100000) station.radios
-  pub least_bound : 1 ≤ station.top.bound
-  pub most_bound : station.top.bound ≤ 16000
-  pub latest_start : station.top.start ≤ 2 ^ 49
-  pub most_gap : station.top.gap ≤ 60000000
-  pub least_clients : 1 ≤ station.top.clients
-  pub most_clients : station.top.clients ≤ 65536
+  pub top : AreWithin station.top
   pub nets : length station.deny ≤ 16
 
 abbrev pub kind_of_radio : RadioFields → SourceKind

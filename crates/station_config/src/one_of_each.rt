@@ -5,19 +5,7 @@ ghost use Rattle.station_config.specs.Station.{one_of_each, plain_radio};
 
 use crate::station::{Parts, Radio, Station, TopNumbers};
 use std::alloc::{AllocError, Global};
-use tick_units::{Local, Plan};
-
-// The numbers that a file has by default.
-fn top_by_default() -> TopNumbers
-    ensures { result ≡ one_of_each.top }
-{
-    TopNumbers {
-        bound: 1000,
-        start: Local::new(0).unwrap(),
-        gap: 0,
-        clients: 1024,
-    }
-}
+use tick_units::Plan;
 
 // A radio without delay, whose log is named by its plan.
 fn plain_radio(alloc: Global, plan: Plan) -> Result<Radio, AllocError>
@@ -41,7 +29,7 @@ impl Station {
         radios.push_reserved(plain_radio(alloc, Plan::Msf)?);
         radios.push_reserved(plain_radio(alloc, Plan::Wwvb)?);
         Ok(Station::new(Parts {
-            top: top_by_default(),
+            top: TopNumbers::by_default(),
             radios,
             servers: Vec::new(alloc),
             leap_file: None,

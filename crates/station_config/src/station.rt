@@ -4,7 +4,7 @@ ghost use Rattle.std.specs.List.{slice_get};
 ghost use Rattle.packet_auth.specs.Keys.{AreApart, keys_of};
 ghost use Rattle.kiss_gate.specs.Nets.{nets_of};
 ghost use Rattle.system_fold.specs.Settings.{AreLawful};
-ghost use Rattle.station_config.specs.Station.{IsStation, kind_of_radio, kind_of_server, leap_feeds, settings_of};
+ghost use Rattle.station_config.specs.Station.{IsStation, kind_of_radio, kind_of_server, leap_feeds, one_of_each, settings_of};
 ghost use Rattle.station_config.specs.KeptStation.{key_kept, net_kept, parts_fields, radio_given, radio_kept, server_fields};
 
 use crate::denied_net::DeniedNet;
@@ -65,6 +65,20 @@ pub struct TopNumbers {
     pub gap: u64,
     /// How many clients a link remembers, 1 to 65536.
     pub clients: u32,
+}
+
+impl TopNumbers {
+    // Those that a file has by default.
+    pub(crate) fn by_default() -> TopNumbers
+        ensures { result ≡ one_of_each.top }
+    {
+        TopNumbers {
+            bound: 1000,
+            start: Local::new(0).unwrap(),
+            gap: 0,
+            clients: 1024,
+        }
+    }
 }
 
 /// What a station is made of. It has no `Debug`, so that no text contains a secret.

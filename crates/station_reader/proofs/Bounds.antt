@@ -1,6 +1,6 @@
 -- The bounds of a station's values, and of a station that has not too many rows.
-use Rattle.std.proofs.Common.{◌≡◌, ◌∙◌, ◌^◌, ◌<◌, ◌≤◌, ℕ, zero, suc, pos, negsuc, Bool, true, false, List, [], ◌∷◌, Option, Some, None, All, cond, map, find, get_or, length, nat_le, nat_lt, refl, sym, ap, arith, unwrap_or, if◌then◌else◌}
-use Rattle.std.specs.Prelude.{◌&&◌, ◌++◌, is_some, not}
+use Rattle.std.proofs.Common.{◌≡◌, ◌∙◌, ◌<◌, ◌≤◌, ℕ, zero, suc, pos, negsuc, Bool, true, false, List, [], ◌∷◌, Option, Some, None, All, cond, map, find, get_or, length, nat_le, nat_lt, refl, sym, ap, arith, unwrap_or, if◌then◌else◌}
+use Rattle.std.specs.Prelude.{◌&&◌, ◌++◌, is_none, is_some, not}
 use Rattle.std.specs.List.{list_all}
 use Rattle.std.proofs.lemmas.Bool.{and_parts, not-true, true≢false}
 use Rattle.std.proofs.lemmas.Bool.Decides.{nat_tests}
@@ -8,10 +8,11 @@ use Rattle.toml.specs.Data.{Data, Members, array, boolean, datetime, float, inte
 use Rattle.tick_units.specs.Plans.{plans}
 use Rattle.tick_units.specs.declared.marks.Plan.{Plan}
 use Rattle.packet_auth.specs.Keys.{AreApart}
-use Rattle.station_reader.specs.Faults.{counts_of, counts_of_others, plan_radios}
-use Rattle.station_reader.specs.Rows.{bound_row, clients_row, gap_row, radio_row, start_row, delay_row, whole_in}
-use Rattle.station_config.specs.Station.{IsStation, RadioFields, StationFields, feed_count, plan_count}
-use Rattle.station_reader.specs.Values.{radio_of, read_or, station_of, tables_at}
+use Rattle.station_reader.specs.Faults.{counts_of, counts_of_others, is_bad, is_missing, is_wrong, plan_radios}
+use Rattle.station_reader.specs.Forms.{Text, has_form, is_secret, is_visible, number_at, read_or, secret_in, tables_at, whole_in, whole_of}
+use Rattle.station_reader.specs.Rows.{delay_row, id_row, radio_of, radio_row, secret_row}
+use Rattle.station_config.specs.Station.{AreWithin, IsStation, RadioFields, StationFields, feed_count, plan_count}
+use Rattle.station_reader.specs.Values.{station_of}
 use Rattle.toml.specs.Data.{get_member}
 use Rattle.tick_units.proofs.PlanLaws.{each}
 
@@ -87,24 +88,60 @@ within s e =
       nets = at_most _ _ n;
     }
 
-pub station_bounds : (m : Members) → IsWithin (station_of m) → AreApart (station_of m).keys → IsStation (station_of m)
-station_bounds m w apart =
-    let bound = read_is 1 16000 1000 (get_member bound_row.key m) (record { low = omega arith; high = omega arith }) in
-    let start = read_is 0 (2 ^ 49) 0 (get_member start_row.key m) (record { low = omega arith; high = omega arith }) in
-    let gap = read_is 0 60000000 0 (get_member gap_row.key m) (record { low = omega arith; high = omega arith }) in
-    let clients = read_is 1 65536 1024 (get_member clients_row.key m) (record { low = omega arith; high = omega arith }) in
-    record {
-      sources = w.sources;
-      plans = w.each_plan;
-      ports = w.ports;
-      keys = w.keys;
-      apart = apart;
-      delays = delays (tables_at radio_row m);
-      least_bound = bound.low;
-      most_bound = bound.high;
-      latest_start = start.high;
-      most_gap = gap.high;
-      least_clients = clients.low;
-      most_clients = clients.high;
-      nets = w.nets;
-    }
+pub station_bounds : (m : Members) → IsWithin (station_of m) → AreWithin (station_of m).top → AreApart (station_of m).keys → IsStation (station_of m)
+station_bounds m w top apart = record {
+  sources = w.sources;
+  plans = w.each_plan;
+  ports = w.ports;
+  keys = w.keys;
+  apart = apart;
+  delays = delays (tables_at radio_row m);
+  top = top;
+  nets = w.nets;
+}
+
+-- ---- the values of a key, where none of them is a fault
+
+id_test : (n : ℕ) (b : Bool) → b ≡ (nat_le 1 n && nat_le n 4294967295) → not (is_some (if b then Some n else None)) ≡ false → 0 < unwrap_or (if b then Some n else None) 0
+id_test n true e w = let (low, _high) = and_parts (nat_le 1 n) (nat_le n 4294967295) (sym e) in grind (arith, nat_tests, low)
+id_test n false e w = absurd (true≢false w)
+
+id_in : (d : Data) → not (has_form id_row.form d) ≡ false → 0 < unwrap_or (whole_of id_row.form d) 0
+id_in (integer (pos n)) w = id_test n (nat_le 1 n && nat_le n 4294967295) refl w
+id_in (integer (negsuc n)) w = absurd (true≢false w)
+id_in (string s) w = absurd (true≢false w)
+id_in (float x) w = absurd (true≢false w)
+id_in (boolean b) w = absurd (true≢false w)
+id_in (datetime t) w = absurd (true≢false w)
+id_in (array ds) w = absurd (true≢false w)
+id_in (table ms) w = absurd (true≢false w)
+
+id_of : (v : Option Data) → is_none v ≡ false → is_wrong id_row.form v ≡ false → 0 < read_or 0 (whole_of id_row.form) v
+id_of None h w = absurd (true≢false h)
+id_of (Some d) h w = id_in d w
+
+pub id_is : (m : Members) → is_missing m id_row ≡ false → is_bad m id_row ≡ false → 0 < number_at id_row m
+id_is m here right = id_of (get_member id_row.key m) here right
+
+secret_test : (s : Text) (b : Bool) → b ≡ is_secret s → not (is_some (if b then Some s else None)) ≡ false → IsFrom 1 32 (length (unwrap_or (if b then Some s else None) []))
+secret_test s true e w =
+    let (sized, _visible) = and_parts (nat_le 1 (length s) && nat_le (length s) 32) (list_all is_visible s) (sym e) in
+    let (low, high) = and_parts (nat_le 1 (length s)) (nat_le (length s) 32) sized in
+    record { low = grind (arith, nat_tests, low); high = grind (arith, nat_tests, high) }
+secret_test s false e w = absurd (true≢false w)
+
+secret_of_data : (d : Data) → not (has_form secret_row.form d) ≡ false → IsFrom 1 32 (length (unwrap_or (secret_in d) []))
+secret_of_data (string s) w = secret_test s (is_secret s) refl w
+secret_of_data (integer n) w = absurd (true≢false w)
+secret_of_data (float x) w = absurd (true≢false w)
+secret_of_data (boolean b) w = absurd (true≢false w)
+secret_of_data (datetime t) w = absurd (true≢false w)
+secret_of_data (array ds) w = absurd (true≢false w)
+secret_of_data (table ms) w = absurd (true≢false w)
+
+secret_of : (v : Option Data) → is_none v ≡ false → is_wrong secret_row.form v ≡ false → IsFrom 1 32 (length (read_or [] secret_in v))
+secret_of None h w = absurd (true≢false h)
+secret_of (Some d) h w = secret_of_data d w
+
+pub secret_is : (m : Members) → is_missing m secret_row ≡ false → is_bad m secret_row ≡ false → IsFrom 1 32 (length (read_or [] secret_in (get_member secret_row.key m)))
+secret_is m here right = secret_of (get_member secret_row.key m) here right

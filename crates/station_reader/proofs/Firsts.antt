@@ -6,7 +6,7 @@ use Rattle.std.specs.List.{list_any}
 use Rattle.std.specs.Prelude.{is_some, is_none, if◌then◌else◌}
 use Rattle.toml.specs.Data.{Data, Items, Members, array, as_array, as_table, boolean, datetime, float, integer, string, table}
 use Rattle.toml.specs.Text.{are_tables}
-use Rattle.station_reader.specs.Rows.{table_at, tables_from, tables_in}
+use Rattle.station_reader.specs.Forms.{table_at, tables_from, tables_in}
 
 pub any-map : {X Y : Type 0} (f : X → Y) (p : Y → Bool) (xs : List X) → list_any p (map f xs) ≡ list_any (λ x. p (f x)) xs
 any-map f p [] = refl

@@ -1,7 +1,8 @@
 -- Lemmas that several proofs of this crate use.
 pub mod Bounds
 pub mod Firsts
-pub mod KeyRows
+pub mod GoodTables
 pub mod KeysApart
 pub mod Orders
+pub mod TakenLaws
 pub mod Walks

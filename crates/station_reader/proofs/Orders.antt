@@ -1,22 +1,17 @@
 -- The faults of the tables of a document, and of a document, in their order.
-use Rattle.std.proofs.Common.{◌≡◌, ◌∙◌, ℕ, Bool, true, false, List, [], ◌∷◌, ◌++◌, Some, refl, sym, ap, subst, cond, filter, find, inl, inr, map, slice_get}
+use Rattle.std.proofs.Common.{◌≡◌, ◌∙◌, ℕ, Bool, true, false, List, [], ◌∷◌, ◌++◌, Some, refl, sym, ap, cond, filter, find, inl, inr, map, slice_get}
 use Rattle.std.proofs.lemmas.Bool.{cases_Bool}
 use Rattle.std.proofs.lemmas.List.Concat.{flat_map-append}
 use Rattle.toml.specs.Data.{Members}
-use Rattle.station_reader.specs.Faults.{Fault, IsDocument, IsFirst, Refuses, Sheet, bad_in, bad_in_keys, bad_of_clients, bad_range, bad_values, client_sheets, faults_of, item_sheets, keys_at, missing_in, missing_key, sheets, sheets_of, top_sheet, unknown_in, unknown_key}
-use Rattle.station_reader.specs.Finding.{IsFirstKeyFault, IsMisreadAt}
-use Rattle.station_reader.specs.Rows.{Row, Text, deny_row, key_row, link_row, radio_row, server_row, top_rows}
-use Rattle.station_reader.specs.Values.{tables_at}
+use Rattle.station_reader.specs.Faults.{Fault, IsDocument, IsFirst, Refuses, Sheet, bad_in, bad_in_keys, bad_of_clients, bad_range, bad_values, client_sheets, faults_of, item_sheets, keys_at, missing_in, missing_key, rows_of, sheets, sheets_of, top_sheet, unknown_in, unknown_key}
+use Rattle.station_reader.specs.Finding.{AllGood, IsGood}
+use Rattle.station_reader.specs.Forms.{Row, Text, tables_at}
+use Rattle.station_reader.specs.Rows.{deny_row, key_row, link_row, radio_row, server_row, top_rows}
 use Rattle.station_reader.specs.declared.fault.StationFault.{StationFault}
 use Rattle.station_reader.specs.declared.fault.StationFault.TheVariants as fault
 use Rattle.station_reader.specs.declared.keys.Part.TheVariants as part
-use Rattle.station_reader.specs.declared.items.KeyFault.{KeyFault}
-use Rattle.station_reader.specs.declared.items.KeyFault.TheVariants as key_fault
 use Rattle.station_reader.proofs.Firsts.{empty_back, empty_front, empty_map, first_map, first_some}
-use Rattle.station_reader.proofs.Walks.{misread_more}
-
-abbrev Kind : Type 0
-Kind = List Row → Members → List Text
+use Rattle.station_reader.proofs.GoodTables.{all_good, all_good_keys}
 
 pub keys_at-two : (kind : List Row → Members → List Text) (xs ys : List Sheet) → keys_at kind (xs ++ ys) ≡ keys_at kind xs ++ keys_at kind ys
 keys_at-two kind xs ys = flat_map-append _ xs ys
@@ -42,72 +37,46 @@ keys_of_items kind m =
     keys_at-two kind (sheets part.Radio (tables_at radio_row m)) (sheets part.Server (tables_at server_row m) ++ sheets part.Link (tables_at link_row m))
     ∙ ap (λ ks. keys_of_radios kind m ++ ks) (keys_at-two kind (sheets part.Server (tables_at server_row m)) (sheets part.Link (tables_at link_row m)))
 
-pub keys_of_all : (kind : List Row → Members → List Text) (m : Members) → keys_at kind (item_sheets m ++ client_sheets m) ≡ keys_at kind (item_sheets m) ++ keys_at kind (client_sheets m)
-keys_of_all kind m = keys_at-two kind (item_sheets m) (client_sheets m)
+pub keys_of_all : (kind : List Row → Members → List Text) (m : Members) → keys_at kind (sheets_of m) ≡ keys_at kind (top_sheet m ∷ item_sheets m) ++ keys_at kind (client_sheets m)
+keys_of_all kind m = keys_at-two kind (top_sheet m ∷ item_sheets m) (client_sheets m)
 
 pub keys_of_clients : (kind : List Row → Members → List Text) (m : Members) → keys_at kind (client_sheets m) ≡ keys_of_keys kind m ++ keys_of_nets kind m
 keys_of_clients kind m = keys_at-two kind (sheets part.Key (tables_at key_row m)) (sheets part.Deny (tables_at deny_row m))
 
--- no table has such a key
+-- no table of an array has such a key
 pub record None_in (kind : List Row → Members → List Text) (m : Members) : Type 0 where
-  pub top : kind top_rows m ≡ []
   pub radios : keys_of_radios kind m ≡ []
   pub servers : keys_of_servers kind m ≡ []
   pub links : keys_of_links kind m ≡ []
-  pub keys : keys_of_keys kind m ≡ []
-  pub nets : keys_of_nets kind m ≡ []
 
-pub none_in : (kind : List Row → Members → List Text) (m : Members) → keys_at kind (sheets_of m) ≡ [] → None_in kind m
+none_in : (kind : List Row → Members → List Text) (m : Members) → keys_at kind (top_sheet m ∷ item_sheets m) ≡ [] → None_in kind m
 none_in kind m h =
-    let all = sym (keys_of_all kind m) ∙ empty_back (map (λ k. k) (kind top_rows m)) (keys_at kind (item_sheets m ++ client_sheets m)) h in
-    let items = sym (keys_of_items kind m) ∙ empty_front (keys_at kind (item_sheets m)) (keys_at kind (client_sheets m)) all in
-    let clients = sym (keys_of_clients kind m) ∙ empty_back (keys_at kind (item_sheets m)) (keys_at kind (client_sheets m)) all in
+    let items = sym (keys_of_items kind m) ∙ empty_back (map (λ k. k) (kind top_rows m)) (keys_at kind (item_sheets m)) h in
     let later = empty_back (keys_of_radios kind m) (keys_of_servers kind m ++ keys_of_links kind m) items in
     record {
-      top = empty_map (λ k. k) (kind top_rows m) (keys_at kind (item_sheets m ++ client_sheets m)) h;
       radios = empty_front (keys_of_radios kind m) (keys_of_servers kind m ++ keys_of_links kind m) items;
       servers = empty_front (keys_of_servers kind m) (keys_of_links kind m) later;
       links = empty_back (keys_of_servers kind m) (keys_of_links kind m) later;
-      keys = empty_front (keys_of_keys kind m) (keys_of_nets kind m) clients;
-      nets = empty_back (keys_of_keys kind m) (keys_of_nets kind m) clients;
     }
 
--- the first bad value of the arrays, where the parts before have none
-in_items : (m : Members) (o : KeyFault) → bad_in top_rows m ≡ [] → IsMisreadAt (keys_of_radios bad_in m ++ (keys_of_servers bad_in m ++ keys_of_links bad_in m)) o → IsMisreadAt (bad_values m) o
-in_items m o top h = misread_more (keys_at bad_in (top_sheet m ∷ item_sheets m)) (bad_of_clients m) o (subst (λ ks. IsMisreadAt ks o) (sym (keys_of_items bad_in m) ∙ sym (ap (λ ks. map (λ k. k) ks ++ keys_at bad_in (item_sheets m)) top)) h)
+-- a document that lacks no key and has no bad value
+pub good : (m : Members) → keys_at missing_in (sheets_of m) ≡ [] → bad_values m ≡ [] → IsGood m
+good m missing bad =
+    let all = sym (keys_of_all missing_in m) ∙ missing in
+    let there = none_in missing_in m (empty_front (keys_at missing_in (top_sheet m ∷ item_sheets m)) (keys_at missing_in (client_sheets m)) all) in
+    let clients = sym (keys_of_clients missing_in m) ∙ empty_back (keys_at missing_in (top_sheet m ∷ item_sheets m)) (keys_at missing_in (client_sheets m)) all in
+    let right = none_in bad_in m (empty_front (keys_at bad_in (top_sheet m ∷ item_sheets m)) (bad_of_clients m) bad) in
+    let of_clients = empty_back (keys_at bad_in (top_sheet m ∷ item_sheets m)) (bad_of_clients m) bad in
+    record {
+      radios = all_good part.Radio (tables_at radio_row m) there.radios right.radios;
+      servers = all_good part.Server (tables_at server_row m) there.servers right.servers;
+      links = all_good part.Link (tables_at link_row m) there.links right.links;
+      keys = all_good_keys [] (tables_at key_row m) (empty_front (keys_of_keys missing_in m) (keys_of_nets missing_in m) clients) (empty_front (bad_in_keys [] (tables_at key_row m)) (keys_of_nets bad_in m) of_clients);
+      deny = all_good part.Deny (tables_at deny_row m) (empty_back (keys_of_keys missing_in m) (keys_of_nets missing_in m) clients) (empty_back (bad_in_keys [] (tables_at key_row m)) (keys_of_nets bad_in m) of_clients);
+    }
 
-pub bad_radio : (m : Members) (o : KeyFault) → bad_in top_rows m ≡ [] → IsMisreadAt (keys_of_radios bad_in m) o → IsMisreadAt (bad_values m) o
-bad_radio m o top h = in_items m o top (misread_more (keys_of_radios bad_in m) (keys_of_servers bad_in m ++ keys_of_links bad_in m) o h)
-
-pub bad_server : (m : Members) (o : KeyFault) → bad_in top_rows m ≡ [] → keys_of_radios bad_in m ≡ [] → IsMisreadAt (keys_of_servers bad_in m) o → IsMisreadAt (bad_values m) o
-bad_server m o top radios h =
-    in_items m o top (subst (λ ks. IsMisreadAt (ks ++ (keys_of_servers bad_in m ++ keys_of_links bad_in m)) o) (sym radios)
-    (misread_more (keys_of_servers bad_in m) (keys_of_links bad_in m) o h))
-
-pub bad_link : (m : Members) (o : KeyFault) → bad_in top_rows m ≡ [] → keys_of_radios bad_in m ≡ [] → keys_of_servers bad_in m ≡ [] → IsMisreadAt (keys_of_links bad_in m) o → IsMisreadAt (bad_values m) o
-bad_link m o top radios servers h =
-    in_items m o top (subst (λ ks. IsMisreadAt (ks ++ (keys_of_servers bad_in m ++ keys_of_links bad_in m)) o) (sym radios)
-    (subst (λ ks. IsMisreadAt (ks ++ keys_of_links bad_in m) o) (sym servers) h))
-
--- none of the values before those of clients is bad
-none_before : (m : Members) → bad_in top_rows m ≡ [] → keys_of_radios bad_in m ≡ [] → keys_of_servers bad_in m ≡ [] → keys_of_links bad_in m ≡ [] → keys_at bad_in (top_sheet m ∷ item_sheets m) ≡ []
-none_before m top radios servers links =
-    ap (λ ks. map (λ k. k) ks ++ keys_at bad_in (item_sheets m)) top ∙ keys_of_items bad_in m
-    ∙ ap (λ ks. ks ++ (keys_of_servers bad_in m ++ keys_of_links bad_in m)) radios
-    ∙ ap (λ ks. ks ++ keys_of_links bad_in m) servers ∙ links
-
-pub bad_key : (m : Members) (o : KeyFault) → bad_in top_rows m ≡ [] → keys_of_radios bad_in m ≡ [] → keys_of_servers bad_in m ≡ [] → keys_of_links bad_in m ≡ [] → IsMisreadAt (bad_in_keys [] (tables_at key_row m)) o → IsMisreadAt (bad_values m) o
-bad_key m o top radios servers links h =
-    subst (λ ks. IsMisreadAt (ks ++ bad_of_clients m) o) (sym (none_before m top radios servers links)) (misread_more (bad_in_keys [] (tables_at key_row m)) (keys_of_nets bad_in m) o h)
-
-pub bad_net : (m : Members) (o : KeyFault) → bad_in top_rows m ≡ [] → keys_of_radios bad_in m ≡ [] → keys_of_servers bad_in m ≡ [] → keys_of_links bad_in m ≡ [] → bad_in_keys [] (tables_at key_row m) ≡ []
-    → IsMisreadAt (keys_of_nets bad_in m) o → IsMisreadAt (bad_values m) o
-bad_net m o top radios servers links keys h =
-    subst (λ ks. IsMisreadAt (ks ++ bad_of_clients m) o) (sym (none_before m top radios servers links)) (subst (λ ks. IsMisreadAt (ks ++ keys_of_nets bad_in m) o) (sym keys) h)
-
-pub no_bad : (m : Members) → bad_in top_rows m ≡ [] → keys_of_radios bad_in m ≡ [] → keys_of_servers bad_in m ≡ [] → keys_of_links bad_in m ≡ [] → bad_in_keys [] (tables_at key_row m) ≡ [] → keys_of_nets bad_in m ≡ [] → bad_values m ≡ []
-no_bad m top radios servers links keys nets =
-    ap (λ ks. ks ++ bad_of_clients m) (none_before m top radios servers links) ∙ ap (λ ks. ks ++ keys_of_nets bad_in m) keys ∙ nets
+pub no_bad_key : (m : Members) → bad_values m ≡ [] → bad_in_keys [] (tables_at key_row m) ≡ []
+no_bad_key m bad = empty_front (bad_in_keys [] (tables_at key_row m)) (keys_of_nets bad_in m) (empty_back (keys_at bad_in (top_sheet m ∷ item_sheets m)) (bad_of_clients m) bad)
 
 -- ---- the faults of a document
 
@@ -135,13 +104,6 @@ range_first u m b e k no_u no_m h =
 
 pub excess_first : (u m b : List Text) (e : List Fault) → u ≡ [] → m ≡ [] → b ≡ [] → in_order u m b e ≡ e
 excess_first u m b e no_u no_m no_b = ap (λ us. in_order us m b e) no_u ∙ ap (λ ms. in_order [] ms b e) no_m ∙ ap (λ bs. in_order [] [] bs e) no_b
-
-pub misread_first : (u m b : List Text) (e : List Fault) (o : KeyFault) → u ≡ [] → m ≡ [] → IsMisreadAt b o → IsFirstKeyFault (in_order u m b e) o
-misread_first u m b e key_fault.Memory no_u no_m h = tt
-misread_first u m b e (key_fault.Range spot) no_u no_m h = range_first u m b e _ no_u no_m h
-misread_first u m b e (key_fault.Unknown spot) no_u no_m h = absurd h
-misread_first u m b e (key_fault.Missing spot) no_u no_m h = absurd h
-misread_first u m b e (key_fault.TooMany key count) no_u no_m h = absurd h
 
 -- ---- the first that passes
 

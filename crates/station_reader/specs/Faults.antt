@@ -1,16 +1,18 @@
 -- The faults of a station file, all of them in their order, over the members of its document.
-use Rattle.std.specs.Prelude.{◌≡◌, ⊤, ℕ, ◌==◌, ◌||◌, Bool, true, false, not, List, [], ◌∷◌, ◌++◌, map, filter, flat_map, length, nat_lt, Option, Some, None, is_none, slice_get, codes, decimal, IsUtf8, if◌then◌else◌}
+use Rattle.std.specs.Prelude.{◌≡◌, ⊤, ℕ, ◌==◌, ◌&&◌, ◌||◌, Bool, true, false, not, List, [], ◌∷◌, ◌++◌, map, filter, flat_map, length, nat_lt, Option, Some, None, is_none, slice_get, codes, decimal, IsUtf8, if◌then◌else◌}
 use Rattle.std.specs.List.{list_any}
 use Rattle.std.specs.Str.{bytes_eq}
 use Rattle.tick_units.specs.Plans.{plans}
 use Rattle.tick_units.specs.declared.marks.Plan.{Plan}
 use Rattle.toml.specs.Data.{Data, Members, get_member, member, no_members}
 use Rattle.toml.specs.Parse.{parse_document}
-use Rattle.station_reader.specs.Rows.{Text, Form, Need, required, preset, optional, Row, has_form, top_rows, radio_rows, server_rows, link_rows, key_rows, deny_rows, link_row, radio_row, server_row, key_row, deny_row, id_row, secret_row}
+use Rattle.station_reader.specs.Forms.{Text, Row, has_form, is_required, number_at, tables_at}
+use Rattle.station_reader.specs.Rows.{top_rows, radio_rows, server_rows, link_rows, key_rows, deny_rows, link_row, radio_row, server_row, key_row, deny_row, id_row, secret_row}
 use Rattle.station_config.specs.Station.{RadioFields, StationFields, feed_count, plan_count}
-use Rattle.station_reader.specs.Values.{number_at, station_of, tables_at}
+use Rattle.station_reader.specs.Values.{station_of}
 use Rattle.station_reader.specs.declared.fault.StationFault.{StationFault}
 use Rattle.station_reader.specs.declared.fault.StationFault.TheVariants as fault
+use Rattle.station_reader.specs.declared.form.Form.{Form}
 use Rattle.station_reader.specs.declared.keys.Part.{Part}
 use Rattle.station_reader.specs.declared.keys.Part.TheVariants.{Top, Radio, Server, Link, Key, Deny}
 
@@ -73,13 +75,9 @@ keys_of (member key d members) = key ∷ keys_of members
 abbrev pub is_known : List Row → Text → Bool
 is_known rows key = list_any (λ row. bytes_eq key row.key) rows
 
-abbrev pub is_required : Need → Bool
-is_required required = true
-is_required (preset n) = false
-is_required optional = false
-
-abbrev pub required_keys : List Row → List Text
-required_keys rows = map (λ row. row.key) (filter (λ row. is_required row.need) rows)
+-- a key has to be there, and is not
+abbrev pub is_missing : Members → Row → Bool
+is_missing members row = is_required row.need && is_none (get_member row.key members)
 
 -- there is a value, and it is not of the type and range of its row
 abbrev pub is_wrong : Form → Option Data → Bool
@@ -93,7 +91,7 @@ abbrev pub unknown_in : List Row → Members → List Text
 unknown_in rows members = filter (λ key. not (is_known rows key)) (keys_of members)
 
 abbrev pub missing_in : List Row → Members → List Text
-missing_in rows members = filter (λ key. is_none (get_member key members)) (required_keys rows)
+missing_in rows members = map (λ row. row.key) (filter (is_missing members) rows)
 
 abbrev pub bad_in : List Row → Members → List Text
 bad_in rows members = map (λ row. row.key) (filter (is_bad members) rows)

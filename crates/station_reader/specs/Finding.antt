@@ -1,71 +1,78 @@
--- What the clauses of the search for the first fault cite.
-use Rattle.std.specs.Prelude.{◌≡◌, ⊤, ℕ, List, [], ◌++◌, map, Option, Some, None, is_none, IfSome, slice_get, codes, decimal}
-use Rattle.std.specs.Borrow.{Bor}
-use Rattle.toml.specs.Data.{Data, Members}
-use Rattle.toml.specs.View.{items_view}
-use Rattle.toml.specs.declared.value.Value.{Value}
-use Rattle.packet_auth.specs.Keys.{AreApart, KeyFields}
-use Rattle.station_reader.specs.Faults.{Count as Limit, Fault, bad_range, bad_values, is_wrong, key_in, missing_in, missing_key, too_many, unknown_in, unknown_key}
-use Rattle.station_reader.specs.Rows.{Form, Row, Text, tables_from}
-use Rattle.station_config.specs.Station.{StationFields}
-use Rattle.station_reader.specs.Values.{read_or, station_of}
+-- What the clauses of the search for the first fault, and of the reading, cite.
+use Rattle.std.specs.Prelude.{◌≡◌, ⊤, ℕ, false, List, [], ◌∷◌, ◌++◌, map, Option, Some, None, slice_get, codes, decimal}
+use Rattle.toml.specs.Data.{Data, Items, Members, item, no_items}
+use Rattle.station_reader.specs.Faults.{Count as Limit, Fault, bad_in, bad_range, is_bad, is_missing, key_in, missing_in, missing_key, too_many, unknown_in, unknown_key}
+use Rattle.station_reader.specs.Forms.{Row, Text, number_at, table_at, tables_at}
+use Rattle.station_reader.specs.Rows.{deny_row, deny_rows, id_row, key_row, key_rows, link_row, link_rows, radio_row, radio_rows, server_row, server_rows}
+use Rattle.station_reader.specs.declared.form.Form.{Form}
+use Rattle.station_reader.specs.declared.form.Form.TheVariants as form
+use Rattle.station_reader.specs.declared.form.Row.{Row as CodeRow}
 use Rattle.station_reader.specs.declared.keys.Check.{Check}
-use Rattle.station_reader.specs.declared.keys.Check.TheVariants.{Unknown, Missing}
+use Rattle.station_reader.specs.declared.keys.Check.TheVariants.{Unknown, Missing, Range}
 use Rattle.station_reader.specs.declared.keys.KeyPath.{KeyPath}
 use Rattle.station_reader.specs.declared.counts.Count.{Count}
 use Rattle.station_reader.specs.declared.items.KeyFault.{KeyFault}
 use Rattle.station_reader.specs.declared.items.KeyFault.TheVariants as key_fault
-use Rattle.station_reader.specs.declared.items.Misread.{Misread}
-use Rattle.station_reader.specs.declared.items.Misread.TheVariants as misread
+
+-- a row of the code's table
+abbrev pub row_seen : CodeRow → Row
+row_seen r = record { key = r.key.now; form = r.form; need = r.need }
+
+-- ---- keys as faults name them
 
 abbrev pub path_text : KeyPath → Text
 path_text s = key_in s.part s.place s.key.now
 
--- a key with what a fault writes before its table's place; without that it is a key of the top table
+-- a key after the key of its table's array and its table's place; without an array it is a key of the top table
 abbrev pub key_after : Option Text → ℕ → Text → Text
 key_after None place key = key
-key_after (Some name) place key = name ++ (decimal place ++ (codes "." ++ key))
+key_after (Some array) place key = array ++ (codes "." ++ (decimal place ++ (codes "." ++ key)))
 
 abbrev pub keys_for : Check → List Row → Members → List Text
 keys_for Unknown = unknown_in
 keys_for Missing = missing_in
+keys_for Range = bad_in
 
--- the tables of the values of an array, each with its place
-abbrev pub tables_seen : Option (Bor (List Value)) → List (ℕ × Members)
-tables_seen None = []
-tables_seen (Some values) = tables_from 0 (items_view values.now)
+-- ---- identifiers
 
--- what was read of the value at a key: its reading or the default, and nothing exactly where the value is a fault
-pub record IsRead {X : Type 0} (form : Form) (default : X) (reading : Data → Option X) (value : Option Data) (result : Option X) : Type 0 where
-  pub said : IfSome result (λ x. x ≡ read_or default reading value)
-  pub wrong : is_none result ≡ is_wrong form value
+-- those of the tables of keys among values
+abbrev pub ids_at : Data → List ℕ
+ids_at d = map (λ t. number_at id_row t.1) (table_at 0 d)
 
--- the first key with a bad value; lack of memory says nothing
-abbrev pub IsMisread : List Text → Misread → Type 0
-IsMisread bad misread.Memory = ⊤
-IsMisread bad (misread.Range key) = slice_get bad 0 ≡ Some key.now
+abbrev pub ids_in : Items → List ℕ
+ids_in no_items = []
+ids_in (item d ds) = ids_at d ++ ids_in ds
 
--- the identifiers of keys
-abbrev pub ids_of : List KeyFields → List ℕ
-ids_of keys = map (λ key. key.id) keys
+-- ---- what is read
 
--- the same among the keys of all tables
-abbrev pub IsMisreadAt : List Text → KeyFault → Type 0
-IsMisreadAt bad key_fault.Memory = ⊤
-IsMisreadAt bad (key_fault.Range spot) = slice_get bad 0 ≡ Some (path_text spot)
-IsMisreadAt bad _ = ⊥
+-- the least and the greatest number of a form
+abbrev pub least_of : Form → ℕ
+least_of (form.Whole least most) = least
+least_of _ = 0
 
--- the rows of these tables follow others, and none of their values is a fault; what holds of the others holds of all
-pub record Adds {F : Type 0} (row_of : Members → F) (bad : List F → List (ℕ × Members) → List Text) (hold : List F → Type 0) (tables : List (ℕ × Members)) (before after : List F) : Type 0 where
-  pub rows : after ≡ before ++ map (λ t. row_of t.1) tables
-  pub good : bad before tables ≡ []
-  pub held : hold before → hold after
+abbrev pub most_of : Form → ℕ
+most_of (form.Whole least most) = most
+most_of _ = 0
 
--- what a document says, where none of its values is a fault; no identifier of a key stands twice
-pub record IsReadOf (members : Members) (fields : StationFields) : Type 0 where
-  pub said : fields ≡ station_of members
-  pub good : bad_values members ≡ []
-  pub apart : AreApart fields.keys
+-- the values of these rows are of their forms, and those that have to be there are there
+abbrev pub AreGood : Members → List Row → Type 0
+AreGood m [] = ⊤
+AreGood m (row ∷ rows) = (is_missing m row ≡ false) × (is_bad m row ≡ false) × AreGood m rows
+
+-- the same of all these tables
+abbrev pub AllGood : List Row → List (ℕ × Members) → Type 0
+AllGood rows [] = ⊤
+AllGood rows (t ∷ ts) = AreGood t.1 rows × AllGood rows ts
+
+-- a document none of whose values is a fault
+pub record IsGood (top : Members) : Type 0 where
+  pub radios : AllGood radio_rows (tables_at radio_row top)
+  pub servers : AllGood server_rows (tables_at server_row top)
+  pub links : AllGood link_rows (tables_at link_row top)
+  pub keys : AllGood key_rows (tables_at key_row top)
+  pub deny : AllGood deny_rows (tables_at deny_row top)
+
+-- ---- the first fault
 
 -- the `KeyFault` is the first of the faults; lack of memory says nothing
 abbrev pub IsFirstKeyFault : List Fault → KeyFault → Type 0

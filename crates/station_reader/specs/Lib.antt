@@ -1,7 +1,7 @@
--- Read Rows first (the keys of a station file and what may stand at each). Then read Values (the station that a document says) and
--- Faults (the faults of a document, in their order). Finding and KeyTables are scaffolding.
+-- Read Forms first (what may stand at a key). Then read Rows (the keys of a station file, and what a table of each kind says), Values
+-- (the station that a document says) and Faults (the faults of a document, in their order). Finding is scaffolding.
 pub mod Faults
 pub mod Finding
-pub mod KeyTables
+pub mod Forms
 pub mod Rows
 pub mod Values

@@ -1,6 +1,6 @@
 //! Reads an IPv4 address.
 ghost use Rattle.std.specs.Prelude.{◌≡◌};
-ghost use Rattle.station_reader.specs.Rows.{octet_of, four_of, before_dot, after_dot, address_of};
+ghost use Rattle.station_reader.specs.Forms.{octet_of, four_of, before_dot, after_dot, address_of};
 
 use decimal_text::whole_number;
 

@@ -5,6 +5,7 @@ ghost use Rattle.station_reader.specs.Faults.{counts_of, plan_radios};
 ghost use Rattle.station_reader.specs.Finding.{count_seen};
 ghost use Rattle.station_config.specs.KeptStation.{parts_fields, radio_kept};
 
+use crate::rows::{DENY_ROW, KEY_ROW, LINK_ROW, RADIO_ROW};
 use station_config::{Parts, Radio};
 use tick_units::Plan;
 
@@ -58,7 +59,7 @@ fn plan_excess(radios: &[Radio], some: &[Plan]) -> Option<Count>
         let count = plan_count(radios, *plan);
         if OF_A_PLAN < count {
             return Some(Count {
-                key: "radio",
+                key: RADIO_ROW.key,
                 count,
                 most: OF_A_PLAN,
             });
@@ -72,7 +73,7 @@ pub fn excess(parts: &Parts) -> Option<Count>
     ensures { option_map count_seen result ≡ find (λ c. nat_lt c.most c.count) (counts_of (parts_fields parts.now)) }
 {
     let feeds = first_over(&[Count {
-        key: "radio",
+        key: RADIO_ROW.key,
         count: feed_count(parts) as u64,
         most: 16,
     }]);
@@ -85,17 +86,17 @@ pub fn excess(parts: &Parts) -> Option<Count>
     }
     first_over(&[
         Count {
-            key: "link",
+            key: LINK_ROW.key,
             count: parts.links.len() as u64,
             most: 8,
         },
         Count {
-            key: "key",
+            key: KEY_ROW.key,
             count: parts.keys.len() as u64,
             most: 8,
         },
         Count {
-            key: "deny",
+            key: DENY_ROW.key,
             count: parts.deny.len() as u64,
             most: 16,
         },

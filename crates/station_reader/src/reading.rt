@@ -1,6 +1,6 @@
 //! Reads a station from the text of its file.
 ghost use Rattle.std.specs.Prelude.{◌≡◌, ℕ, List, IfOk, IfErr, option_map};
-ghost use Rattle.station_reader.specs.Rows.{Text};
+ghost use Rattle.station_reader.specs.Forms.{Text};
 ghost use Rattle.station_reader.specs.Faults.{Fault, Says, Refuses, IsFirst, key_in};
 ghost use Rattle.station_reader.specs.Finding.{IsFirstKeyFault, key_after, path_text};
 
@@ -8,21 +8,22 @@ use crate::document::read_table;
 use crate::fault::{KeyText, StationFault};
 use crate::items::KeyFault;
 use crate::keys::{KeyPath, Part};
+use crate::rows::{DENY_ROW, KEY_ROW, LINK_ROW, RADIO_ROW, SERVER_ROW};
 use station_config::Station;
 use std::alloc::{AllocError, Global};
 
-// What a fault writes before a place in an array of tables. The top table has none.
-fn array_name(part: Part) -> Option<&'static str>
+// The key of a table's array. The top table is in none.
+fn array_key(part: Part) -> Option<&'static str>
     ensures { (place : ℕ) (key : Text) → key_in part place key ≡
         key_after (option_map (λ name. name.now) result) place key }
 {
     match part {
         Part::Top => None,
-        Part::Radio => Some("radio."),
-        Part::Server => Some("server."),
-        Part::Link => Some("link."),
-        Part::Key => Some("key."),
-        Part::Deny => Some("deny."),
+        Part::Radio => Some(RADIO_ROW.key),
+        Part::Server => Some(SERVER_ROW.key),
+        Part::Link => Some(LINK_ROW.key),
+        Part::Key => Some(KEY_ROW.key),
+        Part::Deny => Some(DENY_ROW.key),
     }
 }
 
@@ -32,8 +33,8 @@ fn key_text(alloc: Global, spot: KeyPath<'_>) -> Result<KeyText, AllocError>
 {
     let place = spot.place;
     let key = spot.key;
-    let text = match array_name(spot.part) {
-        Some(name) => format!(in alloc; "{name}{place}.{key}")?,
+    let text = match array_key(spot.part) {
+        Some(array) => format!(in alloc; "{array}.{place}.{key}")?,
         None => String::from_str(alloc, key)?,
     };
     Ok(KeyText::new(text))

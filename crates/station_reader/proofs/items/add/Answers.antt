@@ -1,19 +1,23 @@
 -- What the search leaves open of `items::add`.
-use Rattle.std.proofs.Common.{[], ◌∷◌, ◌++◌, map, subst}
+use Rattle.std.proofs.Common.{◌≡◌, ◌∙◌, [], ◌∷◌, ◌++◌, IfOk, append-nil, sym, ap, map, subst}
 use Rattle.toml.specs.View.{table_view, view}
-use Rattle.station_reader.specs.Faults.{key_in}
-use Rattle.station_reader.specs.Finding.{IsMisread, IsMisreadAt}
-use Rattle.station_reader.specs.Rows.{table_at}
-use Rattle.station_reader.proofs.Firsts.{some_table}
-use Rattle.station_reader.proofs.Walks.{bad_one}
+use Rattle.station_reader.specs.Finding.{AllGood}
+use Rattle.station_reader.specs.Forms.{table_at}
+use Rattle.station_reader.proofs.Firsts.{no_table, some_table}
 use Rattle.station_reader.proofs.items.add.Goals as goal
 
-pub returns-in-Err-clause-bad : goal.returns-in-Err-clause-bad
-returns-in-Err-clause-bad g c =
+pub read-requires : goal.read-requires
+read-requires g c =
     let m = table_view c.in-Some.table.now in
-    let before = map g.I.Item.fields c.args.rows.now.items in
-    let next = before ++ g.I.Item.row_of m ∷ [] in
-    let table = some_table c.args.place (view c.args.item.now) m (rw c.in-Some.is at c.as_table.ensures) in
-    let bad = subst (λ rows. IsMisread (g.I.Item.bad_of (map g.I.Item.fields rows) m) c.in-Err.fault) c.as_slice.ensures.value c.in-Err.ensures.bad in
-    bad_one g.I.Item.part g.I.Item.row_of g.I.Item.bad_of g.I.Item.bad g.I.Item.hold g.met.I.Item.bad_none g.met.I.Item.bad_more before c.args.place m (table_at c.args.place (view c.args.item.now)) c.placed.result table
-    (subst (λ p. IsMisreadAt (map (key_in p c.args.place) (g.I.Item.bad_of before m) ++ g.I.Item.bad next []) c.placed.result) c.part.ensures (c.placed.ensures (g.I.Item.bad_of before m) (g.I.Item.bad next []) bad))
+    (subst (AllGood g.I.Item.rows) (some_table 0 (view c.args.item.now) m (rw c.in-Some.is at c.as_table.ensures)) c.requires).0
+
+pub returns-in_ok-row-in-Some : goal.returns-in_ok-row-in-Some
+returns-in_ok-row-in-Some g c =
+    let m = table_view c.in-Some.table.now in
+    let table = some_table 0 (view c.args.item.now) m (rw c.in-Some.is at c.as_table.ensures) in
+    let said = ap (λ r. r ∷ []) c.in_ok-row-in-Some.ensures ∙ sym (ap (map (λ t. g.I.Item.row_of t.1)) table) in
+    subst (λ xs. IfOk c.push.result (λ _. map g.I.Item.fields c.push.new.rows.items ≡ map g.I.Item.fields c.args.rows.now.items ++ xs)) said c.push.ensures
+
+pub returns-in-None : goal.returns-in-None
+returns-in-None g c =
+    sym (ap (λ ts. map g.I.Item.fields c.args.rows.now.items ++ map (λ t. g.I.Item.row_of t.1) ts) (no_table 0 (view c.args.item.now) (rw c.in-None.is at c.as_table.ensures)) ∙ append-nil (map g.I.Item.fields c.args.rows.now.items))

@@ -1,0 +1,190 @@
+"""Judges from outside what clients, runs and the disk see: the rules of the package's text."""
+
+from dataclasses import dataclass
+from typing import TYPE_CHECKING
+
+from simulation.air import Mark
+from simulation.clients import Clients
+from simulation.kept import Kept
+from simulation.world import World
+
+if TYPE_CHECKING:
+    from simulation.machine import Machine
+    from simulation.program import Feed, Run
+
+WHOLE = 380  # pulses in a row after which the time can be had: four minutes that are whole, a
+#              minute until the first begins, and what a kill may take of a log
+LASTS = 500.0  # for so long after that the time can be had without new ones (s)
+STARTS = 90  # processes that are started within a minute at most
+SHOWN, LOOKED = 0.3, 2.0  # a sleep shown by the real-time clock, to who looked at it so long (s)
+MOST = 2  # findings of a rule that are kept
+
+
+@dataclass(frozen=True)
+class Finding:
+    """A rule that was broken at a moment."""
+
+    rule: str
+    at: float
+    text: str
+
+
+@dataclass
+class Fault:
+    """A fault of the history; in force until `ends`."""
+
+    kind: str
+    at: float
+    ends: float
+
+
+class Judge:
+    """`findings` are the rules that were broken."""
+
+    def __init__(self, world: World, machine: "Machine") -> None:
+        self.world, self.machine = world, machine
+        self.findings: list[Finding] = []
+        self.faults: list[Fault] = []
+        self.tags: dict[int, str] = {}
+        self.credit: dict[int, int] = {}
+        self.last: dict[int, Mark] = {}
+        self.good_at: dict[int, float] = {}  # when a radio last had enough pulses in a row
+        self.had_since: float | None = None  # since when the time can be had
+        self.trouble_at = -1e9  # when a disk was last in trouble
+        self.started_at = 0.0  # when the supervisor was last started
+        self.woke_at = self.jumped_at = -1e9
+        self.is_shown = False  # the last of these, by the real-time clock
+        self.heard_at = -1e9  # when a run that serves read the first pulse after that
+        self.spawns: list[float] = []
+        self.is_over = False  # the end was asked for
+        self.lasts = 0.0  # until when some fault is in force
+        self.clients = Clients(self)
+        self.kept = Kept(self)
+
+    def found(self, rule: str, text: str) -> None:
+        if sum(one.rule == rule for one in self.findings) < MOST:
+            self.findings.append(Finding(rule, self.world.now, text))
+
+    # What the history does
+
+    def fault(self, kind: str, lasts: float = 0.0) -> None:
+        """A fault begins, and lasts so long."""
+        self.clients.settle()
+        if not self.burst():
+            self.clients.begin_burst()
+        self.faults.append(Fault(kind, self.world.now, self.world.now + lasts))
+        self.lasts = max(self.lasts, self.world.now + lasts)
+        self.clients.plan()
+
+    def burst(self) -> list[Fault]:
+        """The faults up to now between which no minute was calm."""
+        found: list[Fault] = []
+        begins = self.world.now
+        for one in reversed(self.faults):
+            if min(one.ends, self.world.now) < begins - 60.0:
+                continue
+            found.append(one)
+            begins = min(begins, one.at)
+        return found
+
+    def taken(self) -> None:
+        """What was received is worth nothing any more: the time has to be had anew."""
+        self.credit.clear()
+        self.good_at.clear()
+        self.clients.plan()
+
+    def replaced(self, radio: int) -> None:
+        """A radio has another source: what was received by the one before counts no more."""
+        self.credit.pop(radio, None)
+        self.good_at.pop(radio, None)
+        self.clients.plan()
+
+    def slept(self, is_counted: bool, seconds: float = 0.0) -> None:
+        """The host slept; where no clock of the kernel counts it, the real-time clock shows it to a
+        supervisor that has looked at it for a while."""
+        self.woke_at = self.world.now
+        if not is_counted:
+            self.jumped_at = self.world.now
+            self.is_shown = seconds >= SHOWN and self.world.now - self.started_at > LOOKED
+        self.taken()
+
+    def started(self) -> None:
+        """The supervisor begins. What the disk may not have had is no longer at hand."""
+        self.started_at = self.world.now
+        if self.world.now - self.trouble_at < 900.0:
+            self.taken()
+        self.clients.plan()
+
+    def has_supervisor(self) -> bool:
+        return self.machine.kills is not None
+
+    def spawned(self) -> None:
+        """A process was started."""
+        now = self.world.now
+        self.spawns = [one for one in self.spawns if now - one < 60.0] + [now]
+        if len(self.spawns) > STARTS:
+            self.found("processes are started without end", f"{STARTS} within a minute")
+            self.spawns = []
+
+    def tag(self, source: str) -> int:
+        """The number that stands for a source in a station."""
+        for number, known in self.tags.items():
+            if known == source:
+                return number
+        self.tags[len(self.tags) + 1] = source
+        return len(self.tags)
+
+    # What is received, and reaches runs
+
+    def delivered(self, mark: Mark) -> None:
+        """A line was written for the supervisor."""
+        before = self.last.get(mark.radio)
+        follows = before and before.second + 1 == mark.second and before.source == mark.source \
+            and abs(before.offset - mark.offset) < 1e-4
+        self.credit[mark.radio] = self.credit.get(mark.radio, 0) + 1 if follows else 1
+        self.last[mark.radio] = mark
+        self.kept.delivered(mark)
+        if self.credit[mark.radio] >= WHOLE:
+            self.good_at[mark.radio] = self.world.now
+            if self.had_since is None:
+                self.had_since = self.world.now
+                self.clients.plan()
+
+    def can_have(self) -> float | None:
+        """Since when the time can be had; None where it can't be had now."""
+        last = max(self.good_at.values(), default=-1e9)
+        if self.is_over or self.world.now - last > LASTS:
+            self.had_since = None
+        return self.had_since
+
+    def fed(self, run: "Run", feed: "Feed", mark: Mark, start: int) -> None:
+        """A run reads a pulse."""
+        if run.served and self.heard_at < self.jumped_at < mark.at:
+            self.heard_at = self.world.now
+            self.clients.plan()
+        if run.epoch == self.world.epoch and mark.epoch != run.epoch:
+            self.found("a pulse of another counter reaches a run",
+                       f"{run}, of epoch {run.epoch}: pulse of epoch {mark.epoch}")
+        if mark.radio != feed.number or mark.source != self.tags.get(feed.tag):
+            self.found("a pulse of another source reaches a run",
+                       f"{run}, radio {feed.number} ({self.tags.get(feed.tag)}): {mark.source}")
+        if start != mark.start:
+            self.found("a pulse was moved", f"{start} in place of {mark.start}")
+
+    def ended(self, run: "Run") -> None:
+        self.kept.ended(run)
+
+    def look(self) -> None:
+        """What clients are answered may have changed."""
+        if self.world.served:
+            self.world.served = False
+            self.clients.look()
+
+    def said(self, level: int, text: str) -> None:
+        self.kept.said(level, text)
+
+    def before_cut(self) -> None:
+        self.clients.settle()
+
+    def after_cut(self) -> None:
+        self.kept.after_cut()

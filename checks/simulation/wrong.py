@@ -1,0 +1,172 @@
+"""Wrong supervisors: bugs that are planted in a copy of the keeper, to see that the judge finds
+them. Each has a history in which it shows; seeds find it too, most within a few."""
+
+from collections.abc import Iterator
+from contextlib import contextmanager
+from dataclasses import dataclass
+from pathlib import Path
+from shutil import copytree
+from tempfile import TemporaryDirectory
+
+PLAIN = "command 5123 600 60 socket 5"
+SHORT = "command 5123 100 60 socket 5"
+
+
+@dataclass(frozen=True)
+class Bug:
+    """In `file` of keeper/supervisor each first text stands in the place of the second.
+    `events` are of a history of this `kind` in which the judge finds it."""
+
+    name: str
+    file: str
+    edits: tuple[tuple[str, str], ...]
+    events: str = ""
+    kind: str = PLAIN
+    ends: float = 700.0
+
+    def history(self) -> str:
+        events = "\n".join(one.strip() for one in self.events.split(";"))
+        return f"seed 1 ends {self.ends:.0f} {self.kind}\n{events}\n"
+
+
+def bug(name: str, file: str, old: str, new: str, events: str = "", kind: str = PLAIN,
+        ends: float = 700.0) -> Bug:
+    return Bug(name, file, ((old, new),), events, kind, ends)
+
+
+def often(event: str, count: int = 14, every: float = 3.0) -> str:
+    """An event again and again."""
+    return ";".join(f"{430 + place * every:.3f} {event}" for place in range(count))
+
+
+@contextmanager
+def planted(top: Path, one: Bug) -> Iterator[Path]:
+    """A copy of the tree's keeper with the bug in it. Raises ValueError where a text that it
+    changes doesn't stand there once."""
+    with TemporaryDirectory() as folder:
+        for name in ("keeper", "feeders"):
+            copytree(top / name, Path(folder) / name)
+        path = Path(folder) / "keeper" / "supervisor" / f"{one.file}.py"
+        text = path.read_text()
+        for old, new in one.edits:
+            if text.count(old) != 1:
+                raise ValueError(f"{one.name}: {old!r} stands {text.count(old)} times in {path}")
+            text = text.replace(old, new)
+        path.write_text(text)
+        yield Path(folder)
+
+
+NEXT = "for run in (self.serving, self.next, *self.ending):"
+WRONG = (
+    # The clocks
+    bug("sleeps below 10 s aren't seen", "clocks", "AWAKE = 0.01", "AWAKE = 10.0",
+        "430 sleep 0.6"),
+    bug("a log's name is the same after a sleep", "clocks",
+        "{round(min(spans, default=0.0) * 100)}", "0", "430 sleep 40;440 kill"),
+    bug("a log's name is without its source", "clocks", "sha256(f\"{counter} {source}\"",
+        "sha256(f\"{counter}\"", "430 hup-source;440 kill"),
+    bug("sources go on over a sleep", "supervisor", "feed.wake()", "pass", "430 sleep 40"),
+    bug("runs go on over a sleep", "supervisor", "self.service.sleep(cause)  #", "pass  #",
+        "430 sleep 40"),
+    bug("what lies unread goes on over a sleep", "radios",
+        "self.lines.last, self.lines.history = now, now + HISTORY", "pass",
+        "430 late 3;431.5 sleep 40"),
+    bug("the last minutes go on over a sleep", "radios", "self.recent.clear()", "pass",
+        "430 sleep 40"),
+    Bug("the run that stands by goes on over a sleep", "service",
+        ((NEXT, "for run in (self.serving, *self.ending):"),
+         ("_drop_next()\n        self._lose(cause, ", "watch\n        self._lose(cause, ")),
+        "430 sleep 40"),
+    bug("a pause of the host isn't seen", "pauses", "LEAST = 0.2", "LEAST = 1e9", "430 jump 40"),
+    # The loop
+    bug("the loop rests for half a second", "supervisor", "TURN = 0.025", "TURN = 0.5"),
+    bug("systemd is told nothing", "supervisor", "self.host.notify(\"WATCHDOG=1\")", "pass"),
+    bug("SIGHUP ends the service", "supervisor", "if number == signal.SIGHUP:", "if not number:",
+        "430 hup"),
+    bug("files that are refused are taken", "supervisor", "str(fault) if fault else self._take",
+        "self._take", "430 hup-bad"),
+    bug("a refused thread of the judge is no refusal", "supervisor",
+        "        except OSError as error:\n            self._judged(f\"the files",
+        "        except KeyError as error:\n            self._judged(f\"the files",
+        "430 refuse spawn 24 1.0 5;430.1 hup"),
+    bug("systemd's sockets aren't taken", "supervisor", "in self.host.handed_over()}", "in []}"),
+    # Runs
+    bug("a run that stands by isn't looked at", "service",
+        "if self.next and not self.looked_at:", "if not self.next and self.looked_at:",
+        "430 kill-next;550 kill-run", ends=800),
+    bug("a run isn't told to end", "runs", "        self._close_pipes()\n        self.host.kill(",
+        "        self.host.kill(", "", SHORT),
+    bug("a run that doesn't end is left", "service", "END = 5.0", "END = 5000.0",
+        "430 spin-run"),
+    bug("the end leaves the run", "service", "self._end(self.serving, \"stop\")", "pass"),
+    bug("the first pause is 100 s", "service", "PAUSES = 1.0, 30.0", "PAUSES = 100.0, 300.0",
+        "430 no-program 5;430.5 kill-next;430.6 kill-run"),
+    bug("a deaf run serves on", "service", "if self.watch.is_deaf() or run.is_broken():",
+        "if run.is_broken():", "430 stop-run"),
+    bug("a run is deaf after 300 silences", "watchdog", "SILENT = 3", "SILENT = 300",
+        "430 stop-run"),
+    bug("what asks a link stays open", "watchdog", "        self.host.close(link.client)\n",
+        ""),
+    bug("a run's ends stay open", "runs", "            for one in theirs:\n"
+        "                host.close(one)", "            pass", "", SHORT),
+    bug("a run's errors stay open", "runs", "        self._close()\n        self.host.release",
+        "        self._close_pipes()\n        self.host.release", often("kill-run", 24), ends=800),
+    bug("the station's pipe stays open", "runs", "        station.close()",
+        "        pass"),
+    bug("a run is never told to begin", "runs", "        self.tell(\"go\")", "        pass"),
+    bug("a run that is dropped isn't released", "service", "            self.next.release()\n", "",
+        often("kill-next", 20), ends=800),
+    # Sources
+    bug("each radio's pulses go to all", "runs", "if own is feed:", "if own or feed:", "",
+        "command,command 5123 600 60 socket 5"),
+    bug("a run that begins isn't given the last minutes", "radios",
+        "return [one for one in self.recent if one.given.start >= oldest]", "return []",
+        "430 kill-next;520 kill-run"),
+    bug("a source that ended isn't begun again", "radios",
+        "if self.state in (\"waiting\", \"starting\"):", "if self.state == \"starting\":",
+        "430 kill-receiver 0"),
+    bug("a silent source isn't begun again", "radios", "> self.radio.stall:", "> 1e9:",
+        "430 stop-receiver 0"),
+    bug("an output that closed has a status", "sources", "{ended(status)}",
+        "{ended(status + 0)}", "430 close-receiver 0"),
+    bug("a file of an earlier boot is taken", "sources", "EARLY, LATE = -1.0, 5.0",
+        "EARLY, LATE = -50000.0, 5.0", "430 cut", "file 5123 600 60 socket 5", 900),
+    bug("a shorter file is read from its old place", "sources",
+        " or here.st_size < self.place:", ":", "1400 shorten 0;2400 kill-next;2400.1 kill-run",
+        "file 5123 3600 60 socket 5", 2600),
+    bug("a line may be far ahead", "pulses", "AHEAD = 1_000_000 ", "AHEAD = 10**15 ",
+        often("leave 0", 10, 5.0), "fifo 5123 600 60 socket 5"),
+    bug("lines may fall", "pulses", "if pulse.start <= self.last:", "if pulse.start <= -2:",
+        "430 again-receiver 0"),
+    # The disk
+    bug("logs are written each 100 s", "logs", "SYNCED = 1.0,", "SYNCED = 100.0,", "595 cut"),
+    bug("logs aren't synced", "logs", "SYNCED = 1.0, 50.0", "SYNCED = 1.0, 5000.0", "559 cut"),
+    bug("a log's name isn't synced", "logs", "                self.host.sync(self.folder)\n",
+        "                pass\n", "250 cut"),
+    bug("a journal isn't synced", "disk", "            if sync:\n                host.sync(",
+        "            if not sync:\n                host.sync(", "400 cut", SHORT),
+    bug("what was printed stays", "journals", "        self.host.remove(self.out)\n", "        pass\n", "",
+        SHORT),
+    bug("journals that are whole are lost", "journals", "if status_of(text[-END:]) and",
+        "if not status_of(text[-END:]) and", "", SHORT),
+    # The reporter
+    bug("the reporter's pipe stays open", "reports", "            self.host.close(theirs)",
+        "            pass", often("kill-reporter", 20, 20.0), ends=1000),
+)
+# Planted too, and found neither by a history nor by seeds:
+NOT_FOUND = (
+    ("watchdog: a link is asked each ten seconds; an answer is waited for 2.5 s",
+     "a client's datagram that waits in the socket is seen first, and has the link asked at once"),
+    ("service: a run is accepted before it answers",
+     "one that is deaf is seen and followed within the two seconds that a fault may take"),
+    ("logs: half a line stays where the disk got full",
+     "the next opening cuts it off; lines before it stand twice, which no reader minds"),
+    ("disk: a journal is written in its place, not beside it",
+     "only a power cut between five calls of one job shows it"),
+    ("reports: a full pipe of the reporter is taken for its end",
+     "only what is drawn is lost; the supervisor starts it again once enough waits"),
+    ("sources: a file that was replaced isn't seen",
+     "the source's stall finds it within a minute, and nothing is lost meanwhile"),
+    ("runs: more than 4096 bytes are written to a pipe at once",
+     "shows where a pipe is all but full: a run that reads nothing is replaced after two seconds"),
+)

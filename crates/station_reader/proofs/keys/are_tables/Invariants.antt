@@ -1,8 +1,0 @@
--- What stays true in the loops of `keys::are_tables`.
-use Rattle.std.proofs.Common.{◌≡◌, drop}
-use Rattle.toml.specs.Text.{are_tables}
-use Rattle.toml.specs.View.{items_view}
-use Rattle.station_reader.proofs.keys.are_tables.Given as goal
-
-abbrev pub invariant-loop-item : goal.invariant-loop-item
-invariant-loop-item l = are_tables (items_view (drop l.item-index l.item-items)) ≡ are_tables (items_view l.item-items)

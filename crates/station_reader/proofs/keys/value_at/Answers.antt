@@ -1,6 +1,0 @@
--- What the search leaves open of `keys::value_at`.
-use Rattle.toml.proofs.Views.{table_get}
-use Rattle.station_reader.proofs.keys.value_at.Goals as goal
-
-pub returns : goal.returns
-returns c = table_get c.get.result c.args.key.now c.args.table.now.entries c.get.ensures.value

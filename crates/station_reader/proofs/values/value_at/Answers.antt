@@ -1,0 +1,6 @@
+-- What the search leaves open of `values::value_at`.
+use Rattle.toml.proofs.Views.{table_get}
+use Rattle.station_reader.proofs.values.value_at.Goals as goal
+
+pub returns : goal.returns
+returns c = table_get c.get.result c.args.key.now c.args.table.now.entries c.get.ensures.value

@@ -1,0 +1,51 @@
+"""`reload`: has the keeper that runs read both files anew, and says whether it took them."""
+
+import json
+import os
+import signal
+import time
+
+from keeper import config
+from keeper.check import keeper_runs
+from keeper.chosen_file import chosen
+from keeper.supervisor.reports import FACTS
+from keeper.errors import DONE, REFUSED, Fault, Parser
+
+WAIT = 40.0  # for the keeper's word, in seconds
+LOOK = 0.05
+
+
+def parser() -> Parser:
+    words = Parser(prog="radio_keeper reload", description="Has the keeper that runs read both "
+                   "files anew. Where they are refused all goes on as it was.")
+    words.add_argument("--config", metavar="FILE",
+                       help="the keeper's file (keeper.toml here or in /etc/radio_ntpd)")
+    return words
+
+
+def main(given: list[str]) -> int:
+    """The exit status: 78 where the keeper refuses a file."""
+    settings = config.load(chosen(parser().parse_args(given).config))
+    path = os.path.join(settings.runtime, FACTS)
+    if not keeper_runs(settings):
+        raise Fault(f"no keeper has {settings.folder}")
+    before = told(path)
+    os.kill(before[0], signal.SIGHUP)
+    end = time.monotonic() + WAIT
+    while time.monotonic() < end:
+        time.sleep(LOOK)
+        pid, reloads, refused = told(path)
+        if pid != before[0]:
+            raise Fault("the keeper ended")
+        if reloads > before[1]:
+            if refused:
+                raise Fault(refused, REFUSED)
+            return DONE
+    raise Fault(f"the keeper says nothing within {WAIT:.0f} s")
+
+
+def told(path: str) -> tuple[int, int, str]:
+    """The keeper's process, how often it has reloaded, and why the last time was refused."""
+    with open(path, encoding="utf-8") as file:
+        facts = json.load(file)
+    return facts["pid"], facts["reloads"], facts["refused"]

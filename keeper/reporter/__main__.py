@@ -1,0 +1,178 @@
+"""The reporter: PYTHON -m keeper.reporter FOLDER, beside the supervisor.
+
+It reads what happens as lines of JSON from its standard input, until that has an end. It writes the
+state, the page and the metrics into the supervisor's runtime folder, saves the state on the disk
+once an hour and at the end, raises alarms, and keeps logs and journals within their bounds. It may
+be killed at any moment, and is started again.
+"""
+
+import contextlib
+import functools
+import json
+import logging
+import os
+import select
+import sys
+import time
+from collections.abc import Callable
+
+from keeper.reporter import metrics, page
+from keeper.reporter.alarms import Alarms
+from keeper.reporter.state import State, StateError, load, put, save
+from keeper.reporter.station_state import Facts, Station
+from keeper.reporter.tidy import tidy
+from keeper.supervisor.clocks import Clocks
+from keeper.supervisor.disk import day_of
+from keeper.supervisor.host import Host, say
+
+STATE, PAGE, METRICS = "state.json", "status.html", "radio_ntpd.prom"
+TURN = 0.5  # the longest turn (s)
+RENEWED = 10.0  # how often what is shown is renewed (s)
+SAVED = 3600.0  # how often the state is put on the disk, and logs are tidied (s)
+PIECE = 1 << 16
+
+log = logging.getLogger(__name__)
+
+
+def last_state(*paths: str) -> State | None:
+    """The newest state of these files that can be read."""
+    found: list[State] = []
+    for path in paths:
+        with contextlib.suppress(StateError):
+            found.append(load(path))
+    return max(found, key=lambda one: one.written) if found else None
+
+
+class Reporter:
+    """`folder` is the runtime folder."""
+
+    def __init__(self, host: Host, folder: str) -> None:
+        self.host, self.folder = host, folder
+        self.station: Station | None = None
+        self.alarms = Alarms(host, os.path.join(folder, STATE))
+        self.clocks = Clocks(host)
+        self.facts: Facts = {}
+        self.half = b""
+        self.is_over = False
+        self.due = {"renew": 0.0, "save": time.monotonic() + SAVED, "tidy": 0.0}
+        self.failed: set[str] = set()
+
+    def turn(self) -> None:
+        """One round."""
+        if select.select([0], [], [], TURN)[0]:
+            self._read()
+        if self.station is not None:
+            self._turn(self.station)
+
+    def _turn(self, station: Station) -> None:
+        if step := self.clocks.step():
+            station.move(step)
+            self.alarms.move(step)
+        station.turn()
+        self._try("alarms", lambda: self._judge(station))
+        if self._is_due("renew", RENEWED):
+            self._renew(station)
+        if self._is_due("save", SAVED):
+            self._try("the state", lambda: self._save(station))
+        if self._is_due("tidy", SAVED) and not self.is_over:
+            self._try("logs and journals", self._tidy)
+
+    def _is_due(self, what: str, every: float) -> bool:
+        """Whether something is done now: once in this many seconds, and at the end."""
+        is_due = self.is_over or time.monotonic() >= self.due[what]
+        if is_due:
+            self.due[what] = time.monotonic() + every
+        return is_due
+
+    def _read(self) -> None:
+        piece = os.read(0, PIECE)
+        self.is_over = not piece
+        *lines, self.half = (self.half + piece).split(b"\n")
+        for line in lines:
+            self._try("what the supervisor says", functools.partial(self._take, line))
+
+    def _take(self, line: bytes) -> None:
+        message = json.loads(line)
+        if "facts" in message:
+            self._take_facts(message["facts"])
+        elif self.station:
+            self.station.heard(message["radio"], message["pulses"])
+
+    def _take_facts(self, facts: Facts) -> None:
+        self.facts = facts
+        begins = self.station is None
+        paths = [os.path.join(one, STATE) for one in (self.folder, facts["folder"])]
+        station = self.station = self.station or Station(last_state(*paths))
+        station.take(facts)
+        said = facts["alarms"]
+        self.alarms.command, self.alarms.limit = said["command"], said["limit"]
+        self.alarms.unheard = said["unheard"]
+        if begins:
+            self.alarms.recall(station.state)
+
+    def _judge(self, station: Station) -> None:
+        state = station.state
+        last = state.alarms[-1:]
+        for one in station.news:
+            self.alarms.raise_alarm(state, one["event"], one["text"], one["at"])
+        station.news.clear()
+        self.alarms.judge(state, time.time())
+        self.alarms.commands.turn(time.monotonic())
+        if state.alarms[-1:] != last:
+            self.due["renew"] = 0.0  # so that one that is killed doesn't raise it again
+
+    def _renew(self, station: Station) -> None:
+        """What is shown; one that can't be drawn or written leaves the others alone."""
+        now, state = time.time(), station.state
+        self._try("reception", lambda: station.renew(now))
+        path = functools.partial(os.path.join, self.folder)
+        self._try(STATE, lambda: save(state, path(STATE)))
+        self._try(PAGE, lambda: put(path(PAGE), page.render(state, now)))
+        self._try(METRICS, lambda: put(path(METRICS), metrics.render(state, now)))
+
+    def _save(self, station: Station) -> None:
+        if self.facts["folder"] != self.folder:
+            save(station.state, os.path.join(self.facts["folder"], STATE))
+
+    def _tidy(self) -> None:
+        now, facts = time.time(), self.facts
+        recent = {day_of(now), day_of(now - 3600)}
+        for name in ("logs", "journals"):
+            folder = os.path.join(facts["folder"], name)
+            if os.path.isdir(folder):
+                tidy(folder, day_of(now), facts["days"], facts["room"], recent)
+
+    def _try(self, what: str, part: Callable[[], None]) -> None:
+        """Whatever goes wrong in one part leaves the others alone; it is said once."""
+        try:
+            part()
+        except Exception as error:
+            if what not in self.failed:
+                why = error.strerror if isinstance(error, OSError) else repr(error)
+                log.error("the reporter: %s: %s", what, why)
+            self.failed.add(what)
+        else:
+            self.failed.discard(what)
+
+    def close(self) -> None:
+        self.alarms.commands.close()
+        if self.station:
+            self.station.close()
+
+
+def main(folder: str) -> int:
+    for one in ("PYTHONPATH", "PYTHONDONTWRITEBYTECODE"):
+        os.environ.pop(one, None)  # they are ours, and not of the alarms' commands
+    host = Host()
+    say()
+    reporter = Reporter(host, folder)
+    try:
+        while not reporter.is_over:
+            reporter.turn()
+    finally:
+        reporter.close()
+    return 0
+
+
+if __name__ == "__main__":
+    sys.exit(main(sys.argv[1]))

@@ -1,0 +1,179 @@
+"""Alarms: a command of the operator's at each change of state. One runs at a time, for a bounded
+time, and holds nothing up."""
+
+import collections
+import logging
+import signal
+
+from keeper.reporter.state import SILENT, Alarm, Event, RadioState, State
+from keeper.supervisor.host import Child, Host
+from keeper.supervisor.sources import ended
+
+KEPT = 20  # alarms that the state keeps, and that wait; of more the oldest is dropped
+GRACE = 2.0  # between SIGTERM and SIGKILL (s)
+NEVER = 900.0  # a radio alone needs ten minutes at most until clients get the time (s)
+HELD_OFF = 3600.0  # between two alarms of runs that died: a flood would send thousands (s)
+LOST = {"slept": ", since the host slept", "paused": ", since the host was paused"}
+BAD_CAUSES = {"died": "ended by itself", "silent": "didn't answer any more"}
+
+log = logging.getLogger(__name__)
+
+
+class Alarms:
+    """`command` is what the shell runs, empty for none; `unheard` after how many seconds without a
+    verdict a radio counts as unheard; `limit` how many seconds a command may run; `state_file` is
+    the name that commands get."""
+
+    def __init__(self, host: Host, state_file: str = "") -> None:
+        self.command, self.unheard, self.limit = "", 3600.0, 30.0
+        self.commands = Commands(host)
+        self.state_file = state_file
+        self.has_time: bool | None = None
+        self.time_at = 0.0
+        self.silent: set[int] = set()
+        self.run = 0
+        self.died_at = -HELD_OFF
+        self.died = 0  # runs that died since that alarm
+
+    def recall(self, state: State) -> None:
+        """What a reporter before this one, of the same keeper, has raised isn't raised again."""
+        for one in state.alarms:
+            if one.at < state.keeper_since:
+                continue
+            if one.event in (Event.TIME_GAINED, Event.TIME_LOST):
+                self.has_time, self.time_at = one.event == Event.TIME_GAINED, one.at
+            elif one.event == Event.RUN_DIED:
+                self.died_at = one.at
+
+    def judge(self, state: State, now: float) -> None:
+        """Raises what changed since the last call (`now` in Unix s)."""
+        self._judge_time(state, now)
+        for radio in state.radios:
+            self._judge_radio(state, radio, now)
+        if state.run.number != self.run:
+            # Of the run that served as this began it isn't known whether it was raised.
+            is_news, self.run = bool(self.run), state.run.number
+            self.died += is_news and state.run.cause in BAD_CAUSES
+        if self.died and now - self.died_at >= HELD_OFF:
+            self._raise_died(state, now)
+
+    def _raise_died(self, state: State, now: float) -> None:
+        """One alarm for all that died since the last one."""
+        run, who = state.run, "the run before"
+        if self.died > 1:
+            who = f"{self.died} runs died or fell silent since the last alarm; the last"
+        said = f" ({run.last_status})" if run.last_status else ""
+        text = f"{who} {BAD_CAUSES.get(run.cause, 'ended')}{said}; run {run.number} follows"
+        self.died, self.died_at = 0, now
+        self.raise_alarm(state, Event.RUN_DIED, text, now)
+
+    def _judge_time(self, state: State, now: float) -> None:
+        if link := state.time_link(now):
+            had, self.has_time, self.time_at = self.has_time, True, now
+            if not had:
+                said = f"clients get the time, from {link.reference_id}"
+                self.raise_alarm(state, Event.TIME_GAINED, said, now)
+            return
+        age = now - state.keeper_since
+        if self.has_time and now - self.time_at >= SILENT:
+            silent = all(now - one.answered_at >= SILENT for one in state.links)
+            said = "no link answers" if silent else "clients get no time"
+            said += LOST.get(state.run.cause, "")
+        # A station that never had it since the keeper began is given its first minutes.
+        elif self.has_time is None and state.links and age >= NEVER:
+            said = f"clients have had no time since the keeper began, {age:.0f} s ago"
+        else:
+            return
+        self.has_time = False
+        self.raise_alarm(state, Event.TIME_LOST, said, now)
+
+    def _judge_radio(self, state: State, radio: RadioState, now: float) -> None:
+        name = f"radio {radio.number} ({radio.name or radio.plan})"
+        begun = max(state.keeper_since, radio.since)
+        silent = now - max(radio.minute_at, begun)
+        if silent >= self.unheard:
+            if radio.number not in self.silent:
+                self.silent.add(radio.number)
+                why = f": {radio.fault}" if radio.fault else ""
+                said = f"{name} has had no verdict for {silent:.0f} s{why}"
+                self.raise_alarm(state, Event.RADIO_UNHEARD, said, now, radio.number)
+        elif radio.number in self.silent and radio.minute_at > begun:
+            self.silent.discard(radio.number)
+            said = f"{name} is received again"
+            self.raise_alarm(state, Event.RADIO_HEARD, said, now, radio.number)
+
+    def move(self, step: float) -> None:
+        """The host's clock was set forward by this number of seconds."""
+        self.time_at += step
+        self.died_at += step
+
+    def raise_alarm(self, state: State, event: str, text: str, now: float,
+                    radio: int | None = None) -> None:
+        """Puts an alarm into the state, says it on standard error, and has the command run."""
+        state.alarms.append(Alarm(str(event), now, text))
+        del state.alarms[:-KEPT]
+        log.warning("alarm %s: %s", event, text)
+        if self.command:
+            environment = self.environment(state, state.alarms[-1], radio)
+            self.commands.waiting.append((self.command, self.limit, environment))
+
+    def environment(self, state: State, alarm: Alarm, radio: int | None) -> dict[str, str]:
+        """What a command learns of an alarm."""
+        link = state.links[0] if state.links else None
+        found = {
+            "RADIO_EVENT": alarm.event, "RADIO_TEXT": alarm.text, "RADIO_AT": f"{alarm.at:.0f}",
+            "RADIO_NUMBER": "" if radio is None else str(radio),
+            "RADIO_RUN": str(state.run.number), "RADIO_STATION": state.station,
+            "RADIO_STATE": self.state_file,
+            "RADIO_LEAP": str(link.leap) if link else "",
+            "RADIO_STRATUM": str(link.stratum) if link else "",
+            "RADIO_REFERENCE": link.reference_id if link else "",
+            "RADIO_ROOT_DISPERSION": f"{link.root_dispersion:.6f}" if link else ""}
+        return {name: value.replace("\0", "\\0") for name, value in found.items()}
+
+
+class Commands:
+    """Runs what waits, one after the other: a command, how long it may take (s), and what it gets
+    in its environment."""
+
+    def __init__(self, host: Host) -> None:
+        self.host = host
+        self.waiting: collections.deque[tuple[str, float, dict[str, str]]]
+        self.waiting = collections.deque(maxlen=KEPT)
+        self.child: Child | None = None
+        self.limit = self.end = 0.0
+        self.is_asked_to_end = False
+
+    def turn(self, now: float) -> None:
+        """Ends a command that takes too long and starts the next one (`now` in monotonic s). Call
+        it once a second or more often."""
+        if self.child is not None and not self._has_ended(self.child, now):
+            return
+        if self.waiting:
+            command, self.limit, environment = self.waiting.popleft()
+            self.end, self.is_asked_to_end = now + self.limit, False
+            words = ["/bin/sh", "-c", command]
+            try:
+                self.child = self.host.spawn(words, standard=(-1, 2, 2), environment=environment)
+            except OSError as error:
+                log.warning("the alarm's command can't be started: %s", error.strerror)
+
+    def _has_ended(self, child: Child, now: float) -> bool:
+        status = self.host.status(child)
+        if status is None and now < self.end + GRACE:
+            if now >= self.end and not self.is_asked_to_end:
+                self.is_asked_to_end = True
+                self.host.kill(child, signal.SIGTERM)
+            return False
+        if status:
+            log.warning("the alarm's command %s", ended(status))
+        elif status is None:
+            log.warning("the alarm's command was killed: it took more than %.0f s", self.limit)
+        self.close()
+        return True
+
+    def close(self) -> None:
+        """Ends a command that still runs, and all that it started."""
+        if self.child:
+            self.host.release(self.child)
+            self.child = None

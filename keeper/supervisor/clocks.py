@@ -1,0 +1,75 @@
+"""Whether the host slept, whether its clock was set, which counter a log is of; and pauses."""
+
+import hashlib
+
+from keeper.supervisor.host import Host
+
+AWAKE = 0.01  # sleeps that are shorter together are none (s)
+LEAST = 2.0  # what the clock is set by less than this moves nothing (s); a slew is none
+AT_ONCE = 0.001  # clocks that are read within this are read at once (s)
+TRIES = 10
+
+
+def slept(host: Host) -> float | None:
+    """For how long the host has slept since its boot (s): its monotonic clock, by which all count,
+    stood still meanwhile. None where this process was interrupted between the clocks."""
+    before = host.monotonic()
+    boot = host.boottime()
+    after = host.monotonic()
+    return boot - after if after - before < AT_ONCE else None
+
+
+def counter(host: Host, boot: str) -> str:
+    """What tells this boot's counter, since the host's last sleep, from every other one. The boot
+    is asked for once, since the host may refuse it."""
+    spans = [span for _ in range(TRIES) if (span := slept(host)) is not None]
+    return f"{boot} {round(min(spans, default=0.0) * 100)}"
+
+
+def tag_of(counter: str, source: str) -> str:
+    """Eight digits for the name of a log: its counter and its source, and so what it may be used
+    for."""
+    return hashlib.sha256(f"{counter} {source}".encode(errors="surrogateescape")).hexdigest()[:8]
+
+
+class Clocks:
+    """Looks at the clocks. `ahead` is what the host's clock is ahead of the seconds since the boot,
+    sleep among them (s)."""
+
+    def __init__(self, host: Host) -> None:
+        self.host = host
+        self.slept = slept(host)
+        self.ahead = host.realtime() - host.boottime()
+
+    def sleep(self) -> float:
+        """For how long the host slept (s), once that is long enough, as short sleeps add up; else
+        0.0."""
+        before, now = self.slept, slept(self.host)
+        if now is None or (before is not None and now - before < AWAKE):
+            return 0.0
+        self.slept = now
+        return now - before if before is not None else 0.0
+
+    def step(self) -> float:
+        """By how much the clock was set forward since the last call (s), 0.0 where it wasn't."""
+        before, self.ahead = self.ahead, self.host.realtime() - self.host.boottime()
+        return self.ahead - before if abs(self.ahead - before) >= LEAST else 0.0
+
+
+class Pause:
+    """A pause that doubles each time, from its least to its greatest length (s). `until` is its end
+    (monotonic s)."""
+
+    span = until = 0.0
+
+    def __init__(self, least: float, most: float) -> None:
+        self.bounds = least, most
+
+    def begin(self, now: float) -> float:
+        """Its length (s)."""
+        self.span = min(max(self.span * 2, self.bounds[0]), self.bounds[1])
+        self.until = now + self.span
+        return self.span
+
+    def reset(self) -> None:
+        self.span = self.until = 0.0

@@ -1,0 +1,125 @@
+"""The pulse logs: a file for each radio, day, and counter. Lines wait in memory until a job writes
+them, so that a disk that hangs holds nothing up."""
+
+import contextlib
+import os
+from collections.abc import Iterator
+
+from keeper.supervisor import disk
+from keeper.supervisor.host import Host, Task
+from keeper.supervisor.pulses import OLDEST, Pulse, reading
+
+WRITTEN, SYNCED = 1.0, 50.0  # how often lines are written, and put on the disk (s)
+MOST = 32 << 20  # bytes of a log: a receiver's day has 2 MB
+WAITING = 20_000  # lines that wait for the disk; of more the oldest are dropped
+TAIL = 65536  # bytes of the end of a log that are read: more than 15 minutes
+
+
+class PulseLog:
+    """The logs of one radio."""
+
+    def __init__(self, host: Host, folder: str, number: int, plan: str, tag: str) -> None:
+        self.host, self.folder = host, folder
+        self.begin, self.end = f"{number}-{plan}.", f".{tag}.log"
+        self.waiting: list[tuple[str, bytes]] = []  # names and lines
+        self.batch: list[tuple[str, bytes]] = []  # what a job has in hand
+        self.task: Task | None = None
+        self.due, self.synced = 0.0, -SYNCED
+        self.unsynced: list[str] = []  # logs that aren't on the disk yet
+        self.note = disk.written(f"the log of radio {number}")
+
+    def name(self, unix: float) -> str:
+        return f"{self.begin}{disk.day_of(unix)}{self.end}"
+
+    def add(self, pulses: list[Pulse]) -> None:
+        name = self.name(self.host.realtime())
+        self.waiting += ((name, one.line()) for one in pulses)
+        del self.waiting[:-WAITING]
+
+    def turn(self, now: float) -> None:
+        """Hands on what waits, once a second."""
+        if self.task and self.task.done():
+            self.note.take(disk.why(self.task.exception()))
+            self.task, self.waiting = None, self.batch + self.waiting
+        if self.task is None and self.waiting and now >= self.due:
+            self.due = now + WRITTEN
+            self.batch, self.waiting = self.waiting, []
+            self.task = self.host.aside(self._write)
+
+    def close(self) -> Task:
+        """Nothing is added any more: what waits is written, and put on the disk."""
+        return self.host.aside(self._finish)
+
+    def _finish(self) -> None:
+        self.batch += self.waiting
+        self.synced = -SYNCED
+        self._write()
+
+    def _write(self) -> None:
+        """A job: what it has written, or what a full log has no room for, is taken out of the
+        batch."""
+        is_full = False
+        while self.batch:
+            name = self.batch[0][0]
+            with self._opened(name) as descriptor:
+                lines = b"".join(line for other, line in self.batch if other == name)
+                is_full |= not self._append(descriptor, lines)
+            self.batch = [one for one in self.batch if one[0] != name]
+            self.unsynced = [*(one for one in self.unsynced if one != name), name]
+        if self.host.monotonic() - self.synced >= SYNCED:
+            while self.unsynced:
+                with self._opened(self.unsynced[0]) as descriptor:
+                    self.host.sync(descriptor)
+                self.unsynced.pop(0)
+            self.synced = self.host.monotonic()
+        if is_full:
+            raise ValueError(f"it has {MOST >> 20} MB of this day already, which is noise")
+
+    @contextlib.contextmanager
+    def _opened(self, name: str) -> Iterator[int]:
+        """Opens a log, whose folder may have been taken away. What a power cut left at its end is
+        cut off."""
+        self.host.make_folder(self.folder)
+        flags = os.O_RDWR | os.O_APPEND | os.O_CREAT | os.O_NOFOLLOW
+        descriptor = self.host.open(os.path.join(self.folder, name), flags)
+        try:
+            size = self.host.stat(descriptor).st_size
+            tail = self.host.read_at(descriptor, 4096, max(0, size - 4096))
+            if len(disk.whole(tail)) < len(tail):
+                self.host.truncate(descriptor, size - len(tail) + len(disk.whole(tail)))
+            if not size:
+                self.host.sync(self.folder)
+            yield descriptor
+        finally:
+            self.host.close(descriptor)
+
+    def _append(self, descriptor: int, lines: bytes) -> bool:
+        """Adds whole lines: all of them, or none. False where they have no room."""
+        size = self.host.stat(descriptor).st_size
+        if size + len(lines) > MOST:
+            return False
+        try:
+            disk.write_all(self.host, descriptor, lines)
+        except OSError:
+            self.host.truncate(descriptor, size)  # half a line would spoil the log
+            raise
+        return True
+
+    def last_pulses(self) -> list[Pulse]:
+        """The pulses of the last 15 minutes that were logged of this counter and this source,
+        whatever day the host's clock had, so that a supervisor that was killed has the time at
+        once. Called before it serves."""
+        found: dict[int, Pulse] = {}
+        with contextlib.suppress(OSError):
+            for name in self.host.names(self.folder):
+                if name.startswith(self.begin) and name.endswith(self.end):
+                    with contextlib.suppress(OSError):
+                        pulses = map(reading, self._tail(name).split(b"\n")[:-1])
+                        found |= {one.start: one for one in pulses if isinstance(one, Pulse)}
+        now = int(self.host.monotonic() * 1e6)
+        return [found[one] for one in sorted(found) if now - OLDEST <= one <= now]
+
+    def _tail(self, name: str) -> bytes:
+        """The whole lines of a log's end, but perhaps for the last."""
+        text = disk.read_all(self.host, os.path.join(self.folder, name), TAIL, from_end=True)
+        return text.partition(b"\n")[2] if len(text) == TAIL else text

@@ -1,0 +1,168 @@
+"""What the supervisor tells: a file in the runtime folder, and a pipe to the reporter, which draws.
+The reporter may die, hang, or be killed; it is started again."""
+
+import dataclasses
+import json
+import logging
+import os
+import sys
+from collections.abc import Callable, Mapping, Sequence
+from typing import Any
+
+from keeper.config import Settings
+from keeper.ntp import unix_of
+from keeper.supervisor import disk
+from keeper.supervisor.pipes import TOP, Outlet
+from keeper.supervisor.clocks import Pause
+from keeper.supervisor.host import Child, Host
+from keeper.supervisor.radios import Feed, Heard
+from keeper.supervisor.service import Service
+from keeper.supervisor.watchdog import Link
+from keeper.errors import ended
+
+FACTS = "service.json"  # in the runtime folder
+EVERY = 2.0  # how often facts are told (s)
+WRITTEN = 10.0  # how often they are written (s)
+PENDING = 1 << 18  # bytes that wait for the reporter; where there are more it hangs
+MOST = 4000  # pulses of a radio that one that begins is told: of noise there are more
+PAUSES = 1.0, 60.0  # before it is started again (s)
+END = 0.4  # within which it has to end: clients wait for the next keeper meanwhile (s)
+OF_SETTINGS = ("station", "folder", "program", "bound", "cycle", "days", "room", "servers",
+               "leap_file")
+
+log = logging.getLogger(__name__)
+
+
+class Reports:
+    """`folder` is the runtime folder. `facts` has what there is to tell now. `ends` is until when
+    the reporter may take to end, once it has been told all (monotonic s)."""
+
+    def __init__(self, host: Host, folder: str, facts: Callable[[], Mapping[str, Any]]) -> None:
+        self.host, self.folder, self.facts = host, folder, facts
+        self.child: Child | None = None
+        self.pipe = Outlet(host, -1, PENDING)
+        self.told_at = self.written_at = self.began = 0.0
+        self.pause = Pause(*PAUSES)
+        self.note = disk.written(os.path.join(folder, FACTS))
+        self.ends: float | None = None
+
+    def awaits(self) -> list[int]:
+        return [self.child.ended] if self.child else []
+
+    def heard(self, feed: Feed, heard: Sequence[Heard]) -> None:
+        """Pulses of a radio."""
+        pulses = [[one.raw.start, one.raw.width, one.given.start] for one in heard]
+        self._tell({"radio": feed.number, "pulses": pulses})
+
+    def _tell(self, message: Mapping[str, Any]) -> None:
+        self.pipe.give(json.dumps(message, separators=(",", ":")).encode() + b"\n")
+
+    def turn(self, feeds: Sequence[Feed], is_news: bool) -> None:
+        """Tells the facts, where they are due or news. A reporter that begins is told all."""
+        now = self.host.monotonic()
+        if self.ends is None:
+            self._look(feeds, now)
+        if not is_news and now - self.told_at < EVERY:
+            return
+        self.told_at, facts = now, self.facts()
+        self._tell({"facts": facts})
+        if is_news or now - self.written_at >= WRITTEN:
+            self.written_at = now
+            self._write(json.dumps(facts).encode() + b"\n")
+
+    def _write(self, text: bytes) -> None:
+        try:
+            disk.put(self.host, os.path.join(self.folder, FACTS), text, sync=False)
+            self.note.take("")
+        except OSError as error:
+            self.note.take(disk.why(error))
+
+    def _look(self, feeds: Sequence[Feed], now: float) -> None:
+        """Sees whether the reporter is there."""
+        if self.child:
+            self.pipe.push()
+            status = self.host.status(self.child)
+            if status is not None:
+                self._lose(f"the reporter {ended(status)}", now)
+            elif self.pipe.is_broken:
+                self._lose("the reporter takes nothing", now)
+            elif now - self.began > PAUSES[1]:
+                self.pause.reset()
+        elif now >= self.pause.until:
+            self._start(now)
+            if self.child:
+                self._tell({"facts": self.facts()})
+                for feed in feeds:
+                    self.heard(feed, feed.last_minutes()[-MOST:])
+
+    def _start(self, now: float) -> None:
+        self.began, theirs = now, -1
+        try:
+            ours, theirs = self.host.outlet()
+            self.pipe = Outlet(self.host, ours, PENDING)
+            words = [sys.executable, "-P", "-m", "keeper.reporter", self.folder]
+            environment = {"PYTHONPATH": TOP, "PYTHONDONTWRITEBYTECODE": "1"}
+            self.child = self.host.spawn(words, standard=(theirs, -1, 2), environment=environment)
+        except OSError as error:
+            self._lose(f"the reporter can't be started: {error.strerror}", now)
+        finally:
+            self.host.close(theirs)
+
+    def _lose(self, why: str, now: float) -> None:
+        self.close()
+        log.warning("%s; it is started again in %.0f s", why, self.pause.begin(now))
+
+    def end(self) -> None:
+        """It has been told all: it saves what it knows, and ends."""
+        self.ends = self.host.monotonic() + END
+        self.pipe.close()
+
+    def has_ended(self) -> bool:
+        """Whether it has, or hangs and isn't waited for."""
+        is_late = self.ends is not None and self.host.monotonic() > self.ends
+        return is_late or self.child is None or self.host.status(self.child) is not None
+
+    def close(self) -> None:
+        """Nothing of it stays."""
+        self.pipe.close()
+        if self.child:
+            self.host.release(self.child)
+            self.child = None
+
+
+def facts_of(host: Host, settings: Settings, service: Service, feeds: Sequence[Feed],
+             began: float) -> dict[str, Any]:
+    """What there is to tell, as JSON has it. Moments are Unix seconds by the clock as it stands,
+    0.0 for never; spans are seconds. `began` is of CLOCK_BOOTTIME."""
+    unix = host.realtime()
+    shift, run = unix - host.monotonic(), service.serving
+    facts: dict[str, Any] = {key: getattr(settings, key) for key in OF_SETTINGS}
+    return facts | {
+        "at": unix, "since": unix - host.boottime() + began, "pid": os.getpid(),
+        "alarms": dataclasses.asdict(settings.alarms),
+        "run": {
+            "number": run.number if run else 0,
+            "since": run.began + shift if run and run.began else 0.0,
+            "cause": run.cause if run else "", "pid": run.child.pid if run else 0,
+            "last_status": service.last.status, "last_journal": service.last.name},
+        "links": [_link(link, service, shift, unix) for link in service.watch.links],
+        "radios": [{
+            "number": feed.number, "plan": feed.radio.plan, "name": feed.radio.name,
+            "delay": feed.radio.delay, "steady": feed.radio.steady, "origin": feed.radio.origin,
+            "source": feed.state, "restarts": feed.restarts, "pulses": feed.pulses,
+            "bad_lines": feed.lines.bad, "last_bad": feed.lines.last_bad,
+            "pulse_at": feed.pulse_at + shift if feed.pulses else 0.0} for feed in feeds]}
+
+
+def _link(link: Link, service: Service, shift: float, unix: float) -> dict[str, Any]:
+    requests, rate = service.requests.get(link.port, (0, 0.0))
+    told = {"port": link.port, "asked_at": link.asked_at and link.asked_at + shift,
+            "answered_at": link.answered_at and link.answered_at + shift,
+            "requests": requests, "requests_per_second": rate}
+    if (said := link.last) is None:
+        return told
+    return told | {
+        "leap": said.leap, "stratum": said.stratum, "reference_id": said.reference_id,
+        "root_delay": said.root_delay, "root_dispersion": said.root_dispersion,
+        "reference_time": unix_of(said.reference, unix), "came": link.came_unix,
+        "offset": link.offset if said.has_time() else 0.0}

@@ -1,0 +1,218 @@
+"""One process of `serve`: started before it is needed and fed from then on, it serves and ends when
+it is told."""
+
+import contextlib
+import copy
+import errno
+import os
+import signal
+from collections.abc import Sequence
+
+from keeper.config import Settings
+from keeper.station import text_of
+from keeper.supervisor.pipes import Outlet
+from keeper.supervisor.host import Child, Host
+from keeper.supervisor.journals import OUT, name_of
+from keeper.supervisor.radios import Feed, Heard
+from keeper.errors import ended, with_port
+
+HEARINGS = 1_000_000  # the most that `serve` takes
+POLLS = 100_000  # the most that a station takes
+LINKS = 8  # the most links of a station
+PENDING = 1 << 20  # bytes that wait for a pipe that is full; more says that nobody reads it
+SENTENCES = 4096  # of what it says on its standard error, in bytes
+HUNG = 2.0  # one that reads no pulse for so long hangs (s)
+LATE = 0.1  # each look counts for so long at most, since the loop may be late itself (s)
+LOCAL = "127.0.0.1"
+
+
+class Run:
+    """Started at `started` (monotonic s). It serves from `began` on, for `cause`, and is told to
+    end at `ended`, for the reason `why`. `own` counts how often the keeper asked each link.
+    `probe` is a port of its own on the loopback, by which it can be asked while another run has the
+    same links; 0 where there is no room for one. `note` says what it has to go without. Raises
+    OSError, and leaves nothing."""
+
+    began: float | None = None
+    ended: float | None = None
+    asks_since = float("inf")  # since when its servers are asked (monotonic s)
+    cause = why = note = out = ""
+    had_time = False
+    is_crowded = False  # whether more datagrams came than are answered as it began
+    errors = -1
+    probe = 0
+
+    def __init__(self, host: Host, settings: Settings, feeds: Sequence[Feed],
+                 links: Sequence[int], number: int, folder: str) -> None:
+        self.host, self.settings, self.feeds, self.number = host, settings, feeds, number
+        self.started = self.looked = host.monotonic()
+        self.unfed = 0.0  # for how long it has read no pulse (s)
+        self.own = [0] * len(links)
+        self.outlets: list[Outlet] = []
+        self.signals: dict[str, int] = {}  # `ask`, `go` and `end`: what hasn't been told yet
+        theirs: list[int] = []
+        try:
+            self.child = self._start(folder, list(links), theirs)
+        except OSError:
+            self._close()
+            self.remove_out()
+            raise
+        finally:
+            for one in theirs:
+                host.close(one)
+        for feed in feeds:
+            self.give(feed, feed.last_minutes())
+
+    def _start(self, folder: str, links: list[int], theirs: list[int]) -> Child:
+        """Starts the process. `theirs` gets our copies of its descriptors."""
+        host = self.host
+
+        def handed(pair: tuple[int, int]) -> int:
+            theirs.append(pair[1])
+            return pair[0]
+
+        for _ in self.settings.radios:
+            self.outlets.append(Outlet(host, handed(host.outlet()), PENDING))
+        logs = [f"/dev/fd/{one}" for one in theirs]
+        for name in ("ask", "go", "end"):
+            self.signals[name] = handed(host.pair())
+        words = [f"{name}={one}" for name, one in zip(self.signals, theirs[-3:])]
+        if 0 < len(links) < LINKS:
+            theirs.append(host.bind(LOCAL, 0))
+            links, self.probe = [*links, theirs[-1]], host.port_of(theirs[-1])
+        words += [f"socket={one}" for one in links]
+        words += [f"pace={self.settings.pace}"] if self.settings.pace else []
+        station = Outlet(host, handed(host.outlet()), 0)
+        place = theirs[-1]
+        station.give(self._station(logs).encode())
+        is_whole = not station.pending
+        station.close()
+        if not is_whole:
+            raise OSError(errno.ENOSPC, "a pipe takes no station", "the station")
+        given = sorted({*theirs, *links})
+        self.errors = handed(host.inlet())
+        out = os.path.join(folder, name_of(host.realtime(), self.number) + OUT)
+        theirs.append(host.open(out, os.O_RDWR | os.O_CREAT | os.O_EXCL | os.O_NOFOLLOW))
+        self.out = out
+        program = [self.settings.program, "serve", "--station", f"/dev/fd/{place}"]
+        return host.spawn(
+            [*program, "--during", str(HEARINGS)], standard=(-1, theirs[-1], theirs[-2]),
+            handed=given, gentle=True, environment={"RADIO_NTPD_SERVICE": " ".join(words)})
+
+    def _station(self, logs: list[str]) -> str:
+        """The station's text for this run: its counter is the host's own."""
+        values = copy.deepcopy(self.settings.text)
+        values["start"] = 0
+        for radio, name in zip(values.get("radio", []), logs):
+            radio["log"] = name
+        for server in values.get("server", []) if self.settings.pace else []:
+            server["polls"] = POLLS
+        if self.probe:
+            values["link"] = [*values["link"], {"port": self.probe}]
+        path = self.settings.leap_file
+        if path and (why := self._refused(path)):  # it is no reason to serve nobody
+            del values["leap_file"]
+            self.note = f"leap_file {path}: {why}; the run goes without it"
+        return text_of(values)
+
+    def _refused(self, path: str) -> str:
+        """Why a file can't be read; nothing where it can."""
+        descriptor = -1
+        try:
+            descriptor = self.host.open(path, os.O_RDONLY)
+            self.host.read(descriptor, 1)
+        except OSError as error:
+            return error.strerror or str(error)
+        finally:
+            self.host.close(descriptor)
+        return ""
+
+    def give(self, feed: Feed, heard: Sequence[Heard]) -> None:
+        """Pulses of a radio, where it is one of this run's."""
+        for own, outlet in zip(self.feeds, self.outlets):
+            if own is feed:
+                outlet.give(b"".join(one.given.line() for one in heard))
+
+    def push(self) -> None:
+        """Gives what waits."""
+        for outlet in self.outlets:
+            outlet.push()
+
+    def is_broken(self) -> bool:
+        """Whether it doesn't take its pulses."""
+        return self.ended is None and any(outlet.is_broken for outlet in self.outlets)
+
+    def is_fed(self) -> bool:
+        """Whether it has read all that it was given."""
+        try:
+            return not any(one.pending or self.host.unread(one.descriptor) for one in self.outlets)
+        except OSError:
+            return False
+
+    def hangs(self, now: float) -> bool:
+        """Whether it hasn't read what it was given for long. Call it often."""
+        self.unfed = 0.0 if self.is_fed() else self.unfed + min(now - self.looked, LATE)
+        self.looked = now
+        return self.unfed > HUNG
+
+    def tell(self, name: str) -> None:
+        """`ask`: its servers may be asked; `go`: it serves."""
+        if name in self.signals:
+            self.host.close(self.signals.pop(name))
+            if name == "ask":
+                self.asks_since = self.host.monotonic()
+
+    def begin(self, cause: str) -> None:
+        """Serves from now on."""
+        self.cause, self.began = cause, self.host.monotonic()
+        self.tell("ask")
+        self.tell("go")
+
+    def end(self, why: str) -> None:
+        """Ends it; its journal follows."""
+        self.why, self.ended = why, self.host.monotonic()
+        self._close_pipes()
+        self.host.kill(self.child, signal.SIGCONT)  # one that was stopped ends too
+
+    def end_at_once(self) -> None:
+        """What it has printed until then is no whole journal."""
+        self.host.kill(self.child, signal.SIGKILL)
+
+    def status(self) -> int | None:
+        return self.host.status(self.child)
+
+    def served_for(self) -> float:
+        """Seconds for which it served, up to its end or now."""
+        end = self.host.monotonic() if self.ended is None else self.ended
+        return max(0.0, end - self.began) if self.began is not None else 0.0
+
+    def how(self) -> str:
+        """How it ended, and the sentence in which it has said what went wrong."""
+        status, said = self.status(), b""
+        with contextlib.suppress(OSError):
+            said = self.host.read(self.errors, SENTENCES)
+        lines = said.decode("utf-8", "replace").strip().splitlines() or [""]
+        why = with_port(lines[-1].removeprefix("radio_ntpd: "), self.settings.links)
+        return ": ".join(filter(None, ("doesn't answer" if status is None else ended(status), why)))
+
+    def _close_pipes(self) -> None:
+        for outlet in self.outlets:
+            outlet.close()
+        while self.signals:
+            self.host.close(self.signals.popitem()[1])
+
+    def _close(self) -> None:
+        self._close_pipes()
+        self.host.close(self.errors)
+        self.errors = -1
+
+    def remove_out(self) -> None:
+        """What it has printed isn't kept."""
+        if self.out:
+            with contextlib.suppress(OSError):
+                self.host.remove(self.out)
+
+    def release(self) -> None:
+        """Nothing of the process stays."""
+        self._close()
+        self.host.release(self.child)

@@ -1,0 +1,332 @@
+"""Which run serves. The next one stands by, fed with the same pulses. A change of run is: go, look,
+end; until the next one was seen to have the time, the one before serves on."""
+
+import logging
+from collections.abc import Sequence
+
+from keeper.config import Settings
+from keeper.ntp import own_addresses
+from keeper.supervisor.clocks import Pause
+from keeper.supervisor.host import Host
+from keeper.supervisor.disk import Note
+from keeper.supervisor.journals import Archive, Journal
+from keeper.supervisor.radios import Feed, Heard
+from keeper.supervisor.runs import HEARINGS, POLLS, Run
+from keeper.supervisor.watchdog import Link, Watch
+from keeper.errors import sentence
+
+STANDBY = 0.5  # how long after a change the next run is started (s)
+ASKED = {"cycle": 10.0, "busy": 0.5, "reload": 0.5}  # servers are asked so long before a change (s)
+FED = {"cycle": 60.0, "busy": 1.0, "reload": 5.0}  # the next may take so long for its pulses (s)
+AT_ONCE = 0.5  # the same where nobody serves (s)
+EVERY = 0.01  # how often a run is asked that is looked at (s)
+ANSWERS = 5  # after this many answers without time it isn't taken where another one has the time
+LOOK = 1.0, 8.0  # within which it has to answer, at least and at most (s)
+END = 5.0  # within which a run has to end (s)
+PAUSES = 1.0, 30.0  # after a run that didn't begin, or that died soon (s)
+PATIENT = 2.0  # the longest such pause that isn't kept where nobody serves (s)
+REFUSED = 60.0, 3600.0  # after a change that was refused since the time would be lost (s)
+SHORT = 10.0  # a run that dies sooner is followed by a pause before another one is started (s)
+USED = 0.7  # the part of its hearings, or of its polls, after which a run is followed
+CROWDED = 4.0  # a run that a crowd comes upon is followed then, so that its journal counts it (s)
+
+log = logging.getLogger(__name__)
+
+
+class Service:
+    """`use` before all else. While `looked_at` is there the run that stands by has been told to
+    serve, since `went` (monotonic s), and is asked by it. `cause` is why the next run is to serve
+    where none does, `last` the journal before."""
+
+    def __init__(self, host: Host, folder: str, archive: Archive) -> None:
+        self.host, self.folder, self.archive = host, folder, archive
+        self.settings: Settings | None = None
+        self.feeds: Sequence[Feed] = ()
+        self.links: dict[int, int] = {}
+        self.addresses: list[str] = []
+        self.serving: Run | None = None
+        self.next: Run | None = None
+        self.ending: list[Run] = []
+        self.watch = Watch(host, [], [])
+        self.looked_at: Watch | None = None
+        self.went = self.due = 0.0  # `due`: when the next run is started (monotonic s)
+        self.number = 0
+        self.cause = "start"
+        self.wants_reload = self.is_stopping = False
+        self.starts = Pause(*PAUSES)
+        self.refusals, self.silences = Pause(*REFUSED), Pause(*PAUSES)
+        self.rate = 0.0  # datagrams a second of the busiest link, in the last journal
+        self.knows_crowd = False  # whether that journal is of a crowd alone
+        self.requests: dict[int, tuple[int, float]] = {}  # of clients, by port: all, and a second
+        self.retired: list[int] = []  # sockets that the run that serves has, and no later one
+        self.last = Journal(host, "", [])
+        self.note = ""
+        self.lacking = Note("no run can be started", "runs can be started again")
+
+    def use(self, settings: Settings, feeds: Sequence[Feed], links: dict[int, int]) -> None:
+        """From now on runs are of these settings, and have these sockets by their ports."""
+        self.wants_reload = self.serving is not None
+        self._drop_next()
+        self.settings, self.feeds, self.links = settings, feeds, links
+        self.addresses = own_addresses(settings.denied, settings.gap)
+        self.due = 0.0
+
+    def awaits(self) -> list[int]:
+        """The descriptors to wait for."""
+        runs = [one for one in (self.serving, self.next, *self.ending) if one]
+        looks = self.looked_at.awaits() if self.looked_at else []
+        return [run.child.ended for run in runs] + self.watch.awaits() + looks
+
+    def wakes(self) -> float:
+        """When something is to be done at the latest (monotonic s)."""
+        serving = self.watch.due() if self.serving else float("inf")
+        return min(serving, self.looked_at.due()) if self.looked_at else serving
+
+    def heard(self, feed: Feed, heard: Sequence[Heard]) -> None:
+        """Pulses of a radio: both runs get them."""
+        for run in (self.serving, self.next):
+            if run:
+                run.give(feed, heard)
+
+    def turn(self, readable: set[int]) -> None:
+        """Does what is due."""
+        now = self.host.monotonic()
+        self._step_ending(now)
+        if self.serving and self.serving.status() is not None:
+            self._lose("died", now)
+        if self.settings and not self.is_stopping:
+            self._step_next(self.settings, now)
+        for run in (self.serving, self.next):
+            if run:
+                run.push()
+        if self.serving:
+            self.watch.turn(readable, now)
+            self._note_time(self.serving, self.watch.has_time(), now)
+        if self.looked_at:
+            self._look(self.looked_at, readable, now)
+        elif self.settings and not self.is_stopping and (cause := self._why(self.settings, now)):
+            self._try(self.settings, cause, now)
+
+    # The run that stands by
+
+    def _step_next(self, settings: Settings, now: float) -> None:
+        if self.next and not self.looked_at:
+            said = f"run {self.next.number}, which stood by,"
+            if self.next.status() is not None:
+                self._fail(f"{said} {self.next.how()}", now)
+            elif self.next.is_broken() or self.next.hangs(now):
+                self._fail(f"{said} takes no pulses", now)
+            elif now - self.next.started > SHORT:
+                self.starts.reset()
+        # Where nobody serves the first failures are no reason to wait.
+        rests = now < self.starts.until and (self.serving or self.starts.span > PATIENT)
+        if not self.next and now >= self.due and not rests:
+            self._start(settings, now)
+
+    def _start(self, settings: Settings, now: float) -> None:
+        self.number += 1
+        links = [self.links[port] for port in settings.links]
+        try:
+            self.next = Run(self.host, settings, self.feeds, links, self.number, self.folder)
+            self.lacking.take("")
+        except OSError as error:
+            self.starts.begin(now)
+            self.lacking.take(sentence(error))
+
+    def _fail(self, said: str, now: float) -> None:
+        """The run that stood by is no good; another one is started after a pause."""
+        log.warning("%s; another one is started in %.0f s", said, self.starts.begin(now))
+        self._drop_next()
+
+    def _drop_next(self) -> None:
+        if self.looked_at:
+            self.looked_at.close()
+            self.looked_at = None
+        if self.next:
+            self.next.end_at_once()
+            self.next.release()
+            self.next.remove_out()
+            self.next = None
+
+    # Changes
+
+    def _why(self, settings: Settings, now: float) -> str:
+        """Why another run is to serve; nothing where this one goes on."""
+        run = self.serving
+        if run is None:
+            return self.cause
+        if self.watch.is_deaf() or run.is_broken():
+            return "silent" if now >= self.silences.until else ""
+        if now < max(self.refusals.until, self.silences.until):
+            return ""
+        if self.wants_reload:
+            return "reload"
+        cycle, lasts = settings.cycle, USED * HEARINGS / self.rate if self.rate else float("inf")
+        if settings.servers and settings.pace:
+            cycle = min(cycle, USED * POLLS * settings.pace)
+        if self.watch.is_crowded() and not self.knows_crowd:
+            lasts = min(lasts, CROWDED)
+        if run.served_for() >= min(lasts, cycle):
+            return "busy" if lasts < cycle else "cycle"
+        return ""
+
+    def _try(self, settings: Settings, cause: str, now: float) -> None:
+        """Has the next run serve, where there is one and it has read what it was given."""
+        run = self.next
+        if run is None:
+            self.due = min(self.due, now)
+            return
+        asked = ASKED.get(cause, 0.0) if settings.servers else 0.0
+        if asked:
+            run.tell("ask")
+            if now - run.asks_since < asked:
+                return
+        if not run.is_fed() and now - run.started < FED.get(cause, AT_ONCE):
+            return
+        run.is_crowded = self.watch.is_crowded()
+        run.begin(cause)
+        port = run.probe or next(iter(settings.links), 0)
+        self.went = now
+        self.looked_at = Watch(self.host, [Link(port)] if port else [], self.addresses, EVERY)
+
+    def _look(self, watch: Watch, readable: set[int], now: float) -> None:
+        """Looks at the run that was told to serve: whether it does, and has the time."""
+        run = self.next
+        if run is None or run.status() is not None:
+            if run:
+                self._fail(f"run {run.number} doesn't begin: it {run.how()}", now)
+            return
+        watch.turn(readable, now)
+        has_time = self.serving is not None and self.watch.has_time() and not self.watch.is_deaf()
+        link = next(iter(watch.links), None)
+        look = min(max(LOOK[0], 2 * self.silences.span), LOOK[1])  # longer where one didn't answer
+        if link is None or link.has_time() or link.kissed or (link.answered_at and not has_time):
+            self._accept(run, watch, now)
+        elif link.answered_at and link.asked > ANSWERS:
+            log.info("run %d goes on: the next one would not have the time yet; it is tried again "
+                     "in %.0f s", self.serving.number if self.serving else 0,
+                     self.refusals.begin(now))
+            self._drop_next()
+        elif not link.answered_at and now - self.went > look:
+            self.silences.begin(now)
+            self._fail(f"run {run.number} doesn't answer", now)
+
+    def _accept(self, run: Run, watch: Watch, now: float) -> None:
+        """The run that was looked at serves, and the one before ends."""
+        watch.close()
+        was_deaf = self.watch.is_deaf()
+        if self.serving:
+            if run.cause == "silent":
+                log.error("run %d doesn't answer any more", self.serving.number)
+            self._end(self.serving, run.cause)
+        self.serving, self.next, self.looked_at = run, None, None
+        ports = run.settings.links
+        if [link.port for link in self.watch.links] != ports:
+            self.watch.close()
+            self.watch = Watch(self.host, [Link(port, self.links[port]) for port in ports], [])
+        self.watch.addresses, self.watch.changed = self.addresses, True
+        self.watch.begin(now, was_deaf)
+        for probe in watch.links:  # its first answer stands for those of its links
+            for link in self.watch.links if probe.last else []:
+                link.last, link.came_unix, link.offset = probe.last, probe.came_unix, probe.offset
+        self.wants_reload = self.wants_reload and run.cause != "reload"
+        while self.retired:
+            self.host.close(self.retired.pop())
+        if run.note and run.note != self.note:
+            log.warning("%s", run.note)
+        self.note = run.note
+        self.due = now + STANDBY
+        self.refusals.reset()
+        self.silences.reset()
+        if run.cause != "died":
+            self.starts.reset()
+        log.info("run %d (%s) serves", run.number, run.cause)
+        self._note_time(run, any(link.has_time() for link in watch.links), now)
+
+    def _note_time(self, run: Run, has_time: bool, now: float) -> None:
+        """Says once that clients of a run get the time."""
+        if has_time and not run.had_time:
+            run.had_time = True
+            span = (now - (run.began or now)) * 1000
+            log.info("run %d has the time after %.0f ms", run.number, span)
+
+    # Ends
+
+    def _end(self, run: Run, why: str) -> None:
+        """Tells a run to end; its journal follows."""
+        for place, link in enumerate(self.watch.links[:len(run.own)]):
+            run.own[place] += link.asked
+            link.asked = 0
+        run.end(why)
+        self.ending.append(run)
+
+    def _lose(self, why: str, now: float) -> None:
+        """The run that serves is no more."""
+        run, self.serving, self.cause = self.serving, None, why
+        if run is None:
+            return
+        self._end(run, why)
+        self.due = now
+        if why == "died" and run.served_for() < SHORT:
+            self.starts.begin(now)
+
+    def _step_ending(self, now: float) -> None:
+        for run in list(self.ending):
+            if run.status() is not None:
+                self.ending.remove(run)
+                self._note_end(run)
+            elif run.ended is not None and now - run.ended > END:
+                log.error("run %d is ended at once: it didn't end by itself", run.number)
+                run.end_at_once()
+                run.ended = now
+
+    def _note_end(self, run: Run) -> None:
+        """A run has ended: its journal goes to the disk, or is lost."""
+        said, seconds = run.how(), max(run.served_for(), 0.1)
+        run.release()
+        self.last = self.archive.add(run.out, run.own)
+        status = self.last.status
+        if run.why != "cycle" or status != "status 0":
+            log.info("run %d ended (%s) after %.0f s: %s", run.number, run.why, seconds,
+                     status or f"no status line, it {said}")
+        if not status:
+            return
+        counts = [max(0, count - own) for count, own in zip(self.last.heard, run.own)]
+        self.rate = max(counts, default=0) / seconds
+        self.knows_crowd = run.is_crowded
+        for port, count in zip(run.settings.links, counts):
+            self.requests[port] = self.requests.get(port, (0, 0.0))[0] + count, count / seconds
+
+    def sleep(self, cause: str = "slept") -> None:
+        """The host slept or was paused: each answer would be as wrong as that was long."""
+        for run in (self.serving, self.next, *self.ending):
+            if run:
+                run.end_at_once()
+        self._drop_next()
+        self._lose(cause, self.host.monotonic())
+
+    def stop(self) -> None:
+        """Ends the run that serves; a second call ends it at once."""
+        if self.is_stopping:
+            for run in self.ending:
+                log.warning("run %d is ended at once: its journal is lost", run.number)
+                run.end_at_once()
+        self.is_stopping = True
+        self._drop_next()
+        if self.serving:
+            self._end(self.serving, "stop")
+            self.serving = None
+        self.watch.close()
+
+    def is_over(self) -> bool:
+        """Whether all runs have ended."""
+        return not self.serving and not self.ending
+
+    def close(self) -> None:
+        """Ends all at once."""
+        self._drop_next()
+        self.watch.close()
+        for run in (self.serving, *self.ending):
+            if run:
+                run.end_at_once()
+                run.release()

@@ -1,0 +1,326 @@
+"""The loop of the supervisor, one turn after the other.
+
+A simulation makes `Supervisor(host, settings)` over a host of its own, calls `begin` once and
+`turn` until it is False; `status` is then the exit status. What it starts, by `Host.spawn`: runs
+(runs.py), radios' commands (sources.py), and the reporter (reports.py)."""
+
+import contextlib
+import logging
+import os
+import signal
+from collections.abc import Callable
+from concurrent.futures import Future
+from typing import Any
+
+from keeper import lock
+from keeper.config import Settings
+from keeper.errors import DONE, NOT_WELL
+from keeper.supervisor import clocks, disk
+from keeper.supervisor.host import Host, Task
+from keeper.supervisor.journals import OUT, Archive
+from keeper.supervisor.logs import PulseLog
+from keeper.supervisor.pauses import Pauses
+from keeper.supervisor.radios import Feed, Heard
+from keeper.supervisor.reports import Reports, facts_of
+from keeper.supervisor.service import Service
+
+TURN = 0.025  # the longest turn (s)
+LEAST = 0.001  # the shortest wait (s), so that nothing spins
+FAULTS = 60.0  # how often the same fault of our own is said (s)
+LEFT = 2.0  # a run of a keeper that was killed may take so long to end (s)
+LAST = 10.0  # within which the disk has to take what is left at the end (s)
+EVENTS = 16  # events that are told again to a reporter that begins
+PAUSES = 1.0, 30.0  # before a port is tried again (s)
+ANY = "0.0.0.0"
+PAUSED = "paused"  # in the runtime folder: when the host was last paused (Unix s)
+
+log = logging.getLogger(__name__)
+
+
+class Supervisor:
+    """Keeps the station of these settings served. `status` is the exit status once `turn` is
+    False. `stopping` is since when the end is asked for (monotonic s)."""
+
+    def __init__(self, host: Host, settings: Settings) -> None:
+        self.host, self.settings = host, settings
+        self.status = DONE
+        self.began = host.boottime()
+        self.clocks, self.pauses = clocks.Clocks(host), Pauses(host)
+        self.boot = self.counter = self.paused = ""
+        self.feeds: list[Feed] = []
+        self.logs: dict[Feed, PulseLog] = {}
+        self.closing: list[Task] = []  # logs that are given back
+        self.lock = -1
+        self.links: dict[int, int] = {}  # sockets by their ports
+        self.ports, self.is_bound = clocks.Pause(*PAUSES), False
+        self.archive = Archive(host, os.path.join(settings.folder, "journals"))
+        self.service = Service(host, settings.runtime, self.archive)
+        self.reports = Reports(host, settings.runtime, self._facts)
+        self.judging: Future[Settings] | None = None
+        self.refused = ""  # why a file was refused at the last reload
+        self.reloads = 0
+        self.events: list[dict[str, Any]] = []
+        self.stopping: float | None = None
+        self.pinged = 0.0
+        self.faults: dict[str, float] = {}  # by part when it was last said what went wrong
+
+    def begin(self) -> None:
+        """Takes the folders, the sockets and the sources. Raises OSError, or Fault where another
+        keeper has the folder."""
+        for folder in (self.settings.folder, self.settings.runtime):
+            self.host.make_folder(folder)
+        self.lock = lock.take(self.host, self.settings.folder)
+        self.boot = self.host.boot()
+        with contextlib.suppress(OSError):
+            self.paused = disk.read_all(self.host, self._paused(), 64).decode("ascii", "replace")
+        self.counter = self._counter()
+        self.links = {self.host.port_of(one): one for one in self.host.handed_over()}
+        self.archive.due = self.host.monotonic() + LEFT
+        for name in self.host.names(self.settings.runtime):
+            if name.endswith(OUT):  # of a supervisor that was killed
+                self.archive.add(os.path.join(self.settings.runtime, name), [])
+        for place in range(len(self.settings.radios)):
+            self.feeds.append(self._feed(place, self.settings))
+            self.feeds[-1].recall(self.logs[self.feeds[-1]].last_pulses())
+        self.host.notify("READY=1")
+
+    def _feed(self, place: int, settings: Settings) -> Feed:
+        """A feed of the radio at this place."""
+        feed = Feed(self.host, place, settings.radios[place], self._heard)
+        self.logs[feed] = self._log(feed)
+        return feed
+
+    def _log(self, feed: Feed) -> PulseLog:
+        folder = os.path.join(self.settings.folder, "logs")
+        tag = clocks.tag_of(self.counter, f"{feed.radio.kind} {feed.radio.value}")
+        return PulseLog(self.host, folder, feed.number, feed.radio.plan, tag)
+
+    def _heard(self, feed: Feed, heard: list[Heard]) -> None:
+        """Pulses of a radio go to the runs first."""
+        self.service.heard(feed, heard)
+        self.logs[feed].add([one.raw for one in heard])
+        self.reports.heard(feed, heard)
+
+    def turn(self) -> bool:
+        """One round: waits for what comes, at most a fortieth of a second, and does what is due.
+        False once all has ended. Nothing is raised, whatever happens outside."""
+        span = min(TURN, self.service.wakes() - self.host.monotonic())
+        readable = self.host.wait(self._awaits(), max(LEAST, span))
+        self._guarded(self._look_at_clocks)
+        self._guarded(self._take_signals)
+        for feed in self.feeds:
+            if self.stopping is None:
+                feed.turn(readable)
+        self._guarded(lambda: self.service.turn(readable))
+        for part in (self._step_links, self._step_reload, self._step_disk, self._tell):
+            self._guarded(part)
+        return not self._is_over()
+
+    def _guarded(self, part: Callable[[], None]) -> None:
+        """What goes wrong in one part leaves the others alone; it is said once a minute."""
+        try:
+            part()
+        except Exception as error:
+            now, where = self.host.monotonic(), part.__qualname__
+            if now - self.faults.get(where, -FAULTS) >= FAULTS:
+                self.faults[where] = now
+                log.exception("in the loop: %r", error)
+
+    def _awaits(self) -> list[int]:
+        sources = [feed.source.awaits for feed in self.feeds if self.stopping is None]
+        own = [one for one in sources if one >= 0]
+        return own + self.service.awaits() + self.reports.awaits()
+
+    def _look_at_clocks(self) -> None:
+        if span := self.clocks.sleep():
+            self._forget("slept")
+            self.pauses.forget()
+            log.warning("the host slept for %.2f s; a new run begins, without what was received "
+                        "before", span)
+        elif span := self.pauses.look():
+            self.paused = f"{self.host.realtime():.1f}"
+            self._forget("paused")
+            log.warning("the host stood still for %.1f s, as its real-time clock shows; a new run "
+                        "begins, without what was received before", span)
+            # A keeper that is started again must not read back what was received before.
+            disk.put(self.host, self._paused(), self.paused.encode(), sync=False)
+        step = self.clocks.step()
+        if step:
+            log.warning("the host's clock was set %s by %.0f s; clients' time is the radios' and "
+                        "stays", "forward" if step > 0 else "back", abs(step))
+
+    def _counter(self) -> str:
+        """What tells the counter since the last sleep and pause from every other one."""
+        return f"{clocks.counter(self.host, self.boot)} {self.paused}".rstrip()
+
+    def _paused(self) -> str:
+        return os.path.join(self.settings.runtime, PAUSED)
+
+    def _forget(self, cause: str) -> None:
+        """The counter stood still: what was received before says nothing of now."""
+        self.service.sleep(cause)  # at first: each answer is as wrong as that was long
+        for feed in self.logs:  # at the end they are given back already
+            feed.wake()
+        self.counter = self._counter()
+        for feed in self.logs:
+            self.closing.append(self.logs[feed].close())
+            self.logs[feed] = self._log(feed)
+
+    def _take_signals(self) -> None:
+        for number in self.host.signals():
+            if number == signal.SIGHUP:
+                self._reload()
+            else:
+                self._stop()
+
+    def _stop(self) -> None:
+        if self.stopping is None:
+            log.info("the end was asked for")
+            self.host.notify("STOPPING=1")
+            self.stopping = self.host.monotonic()
+            for feed in self.feeds:
+                feed.source.rest()
+                self.closing.append(self.logs.pop(feed).close())
+        self.service.stop()
+
+    def _step_links(self) -> None:
+        """Binds what isn't bound yet, and then has the station served."""
+        now = self.host.monotonic()
+        if self.is_bound or self.stopping is not None or now < self.ports.until:
+            return
+        try:
+            self._bind(self.settings)
+        except OSError as error:
+            log.error("%s; it is tried again in %.0f s", error.strerror, self.ports.begin(now))
+            return
+        self.is_bound = True
+        self.service.use(self.settings, self.feeds, self.links)
+
+    def _bind(self, settings: Settings) -> None:
+        for port in settings.links:
+            if port not in self.links:
+                try:
+                    self.links[port] = self.host.bind(ANY, port)
+                except OSError as error:
+                    raise OSError(error.errno, f"port {port}: {error.strerror}") from error
+
+    # Reload
+
+    def _reload(self) -> None:
+        """Has both files judged beside the loop, anew where they are judged already."""
+        self.host.notify(f"RELOADING=1\nMONOTONIC_USEC={int(self.host.monotonic() * 1e6)}")
+        try:
+            self.judging = self.host.settings(self.settings.path)
+        except OSError as error:
+            self._judged(f"the files can't be judged: {error.strerror}")
+
+    def _step_reload(self) -> None:
+        """Takes what was judged; later where a run is about to serve, whose place it would
+        take."""
+        is_about = self.service.serving is None and self.service.next is not None
+        if not self.judging or not self.judging.done() or is_about or self.stopping is not None:
+            return
+        task, self.judging = self.judging, None
+        fault = task.exception()
+        self._judged(str(fault) if fault else self._take_over(task.result()))
+
+    def _judged(self, why: str) -> None:
+        """Both files were taken, or were refused, and then all goes on as it was."""
+        self.refused, self.reloads, self.service.watch.changed = why, self.reloads + 1, True
+        if why:
+            log.error("not reloaded: %s", why)
+            number = self.events[-1]["number"] + 1 if self.events else 1
+            self.events.append({"number": number, "event": "file-refused", "text": why,
+                                "at": self.host.realtime()})
+            del self.events[:-EVENTS]
+        self.host.notify("READY=1")
+
+    def _take_over(self, settings: Settings) -> str:
+        """Goes over to settings, or says why not. What they leave as it is goes on."""
+        for key in ("folder", "runtime"):
+            if getattr(settings, key) != getattr(self.settings, key):
+                return f"{key}: the keeper has to be started anew for another one"
+        try:
+            self._bind(settings)
+            feeds = [self._feed_for(place, settings) for place in range(len(settings.radios))]
+        except OSError as error:
+            self.logs = {feed: self.logs[feed] for feed in self.feeds}
+            return error.strerror or str(error)
+        for feed in self.feeds:
+            if feed not in feeds:
+                feed.source.close()
+                self.closing.append(self.logs.pop(feed).close())
+        left = [port for port in self.links if port not in settings.links]
+        self.service.retired += [self.links.pop(port) for port in left]
+        self.settings, self.feeds, self.is_bound = settings, feeds, True
+        self.service.use(settings, feeds, self.links)
+        log.info("both files were read anew")
+        return ""
+
+    def _feed_for(self, place: int, settings: Settings) -> Feed:
+        """The feed that runs where the radio is the same; what another one of the same source has
+        heard is at hand."""
+        radio = settings.radios[place]
+        old = self.feeds[place] if place < len(self.feeds) else None
+        if old and old.radio == radio:
+            return old
+        feed = self._feed(place, settings)
+        if old and (old.radio.kind, old.radio.value) == (radio.kind, radio.value):
+            feed.recall([one.raw for one in old.last_minutes()])
+        return feed
+
+    # Disk and people
+
+    def _step_disk(self) -> None:
+        now = self.host.monotonic()
+        self.archive.turn(now)
+        self.closing = [one for one in self.closing if not one.done()]
+        for pulse_log in self.logs.values():
+            pulse_log.turn(now)
+
+    def _tell(self) -> None:
+        now, interval = self.host.monotonic(), self.host.watchdog
+        if interval is not None and now - self.pinged >= interval:
+            self.pinged = now
+            self.host.notify("WATCHDOG=1")
+        is_news, self.service.watch.changed = self.service.watch.changed, False
+        self.reports.turn(self.feeds, is_news)
+
+    def _facts(self) -> dict[str, Any]:
+        notes = [self.service.lacking.text, self.service.note, self.archive.note.text,
+                 *(one.note.text for one in self.logs.values()),
+                 self.refused and f"not reloaded: {self.refused}"]
+        facts = facts_of(self.host, self.settings, self.service, self.feeds, self.began) | {
+            "notes": [one for one in notes if one], "events": self.events,
+            "reloads": self.reloads, "refused": self.refused}
+        # One that was stopped hasn't died.
+        return facts if self.stopping is None else facts | {"pid": 0}
+
+    def _is_over(self) -> bool:
+        """Whether all has ended that has a journal or a log; the disk may be waited for a while."""
+        if self.stopping is None:
+            return False
+        is_late = self.host.monotonic() - self.stopping > LAST
+        is_kept = not self.archive.waiting or bool(self.archive.note.text)
+        if not is_late and not (self.service.is_over() and is_kept and not self.closing):
+            return False
+        if self.reports.ends is None:
+            self._guarded(lambda: self.reports.turn(self.feeds, True))  # the last of it
+            self.reports.end()
+        if not is_late and not self.reports.has_ended():
+            return False
+        if self.archive.waiting:
+            log.error("the disk takes nothing; journals that wait in %s: %d", self.settings.runtime,
+                      len(self.archive.waiting))
+        if self.archive.lost or self.archive.waiting:
+            self.status = NOT_WELL
+        return True
+
+    def close(self) -> None:
+        """Nothing stays, whatever happened."""
+        for feed in self.feeds:
+            self._guarded(feed.source.close)
+        self._guarded(self.service.close)
+        self._guarded(self.reports.close)
+        for one in (self.lock, *self.links.values()):
+            self.host.close(one)

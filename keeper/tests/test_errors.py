@@ -1,0 +1,48 @@
+"""Sentences on what the program or the host says, and how arguments are refused."""
+
+import contextlib
+import io
+import unittest
+
+from keeper.errors import Fault, Parser, reason, sentence, with_port
+
+
+class Sentences(unittest.TestCase):
+    def test_a_link_is_named_with_its_port(self) -> None:
+        taken = "another program or link has the port"
+        for said, due in (
+            (f"cannot open link 1: {taken}", f"cannot open link 1 (port 323): {taken}"),
+            ("cannot open link 2: x", "cannot open link 2: x"),
+            ("cannot open feed 1: x", "cannot open feed 1: x"), ("", ""),
+        ):
+            self.assertEqual(with_port(said, [123, 323]), due)
+
+    def test_what_the_program_says_last(self) -> None:
+        for said, due in ((b"a note\nradio_ntpd: cannot open feed 0\n", "cannot open feed 0"),
+                          (b"", ""), (b"\xff\n", "\ufffd")):
+            self.assertEqual(reason(said), due)
+
+    def test_what_the_host_refuses(self) -> None:
+        self.assertEqual(sentence(FileNotFoundError(2, "No such file or directory", "/a")),
+                         "/a: No such file or directory")
+        self.assertEqual(sentence(OSError(12, "Cannot allocate memory")), "Cannot allocate memory")
+        self.assertEqual(sentence(TimeoutError("timed out")), "timed out")
+
+    def test_a_fault_has_the_status_of_a_host_that_refuses(self) -> None:
+        self.assertEqual((Fault("x").status, Fault("x", 78).status), (71, 78))
+
+
+class Arguments(unittest.TestCase):
+    def test_what_is_not_valid_ends_with_64(self) -> None:
+        words = Parser(prog="radio_keeper x")
+        words.add_config()
+        said = io.StringIO()
+        with contextlib.redirect_stderr(said), self.assertRaises(SystemExit) as ended:
+            words.parse_args(["--confug"])
+        self.assertEqual(ended.exception.code, 64)
+        self.assertTrue(said.getvalue().endswith(
+            "\nradio_keeper x: unrecognized arguments: --confug\n"), said.getvalue())
+
+
+if __name__ == "__main__":
+    unittest.main()

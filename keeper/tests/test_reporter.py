@@ -1,0 +1,135 @@
+"""The reporter itself: whatever goes wrong in one part leaves the others alone."""
+
+import contextlib
+import io
+import json
+import os
+import subprocess
+import sys
+import time
+import unittest
+from unittest import mock
+
+from keeper import status
+from keeper.reporter.__main__ import METRICS, PAGE, STATE, Reporter, last_state
+from keeper.reporter.state import Alarm, State, load, save
+from keeper.reporter.station_state import Station
+from keeper.supervisor.host import Host
+from keeper.tests.made_station import a_good_station
+from keeper.tests.test_receiver import log, upside_down
+from keeper.tests.test_station_state import Folder, facts
+
+
+class Reporters(Folder):
+    def reporter(self) -> Reporter:
+        reporter = Reporter(Host(), self.runtime)
+        self.addCleanup(reporter.close)
+        return reporter
+
+    def tell(self, reporter: Reporter, message: dict) -> Station:
+        reporter._take(json.dumps(message).encode())
+        assert reporter.station
+        return reporter.station
+
+    def test_all_is_drawn_and_saved(self) -> None:
+        reporter = self.reporter()
+        station = self.tell(reporter, {"facts": facts(self.folder)})
+        for number in (0, 9):
+            self.tell(reporter, {"radio": number, "pulses": [[1_000_000, 100_000, 1_000_001]]})
+        reporter._renew(station)
+        self.assertEqual(sorted(os.listdir(self.runtime)), sorted([STATE, PAGE, METRICS]))
+        reporter._save(station)
+        saved = load(os.path.join(self.folder, STATE))
+        self.assertEqual(saved.radios[0].name, "roof")
+
+    def test_what_can_not_be_drawn_leaves_the_rest_alone_and_is_said_once(self) -> None:
+        reporter = self.reporter()
+        station = self.tell(reporter, {"facts": facts(self.folder)})
+        with mock.patch("keeper.reporter.page.render", side_effect=IndexError("x")):
+            with self.assertLogs("keeper") as said:
+                reporter._renew(station)
+                reporter._renew(station)
+        self.assertEqual(len(said.output), 1)
+        self.assertIn("the reporter: status.html: IndexError('x')", said.output[0])
+        self.assertEqual(sorted(os.listdir(self.runtime)), sorted([STATE, METRICS]))
+
+    def test_a_folder_that_takes_nothing(self) -> None:
+        reporter = self.reporter()
+        station = self.tell(reporter, {"facts": facts(self.folder)})
+        os.rmdir(self.runtime)
+        with self.assertLogs("keeper") as said:
+            reporter._renew(station)
+        self.assertIn("the reporter: state.json: No such file or directory", said.output[0])
+
+    def test_nonsense_is_said_once(self) -> None:
+        reporter = self.reporter()
+        lines = b'{"facts": {}}\nx\n{"facts": 3}\n'
+        with mock.patch("keeper.reporter.__main__.os.read", return_value=lines):
+            with self.assertLogs("keeper") as said:
+                reporter._read()
+        self.assertEqual(len(said.output), 1)
+        self.assertIn("the reporter: what the supervisor says: KeyError(", said.output[0])
+
+    def test_a_state_that_another_version_can_not_draw_ends_nothing(self) -> None:
+        state = a_good_station(time.time())
+        state.radios[0].reception[-1].refused["²"] = 3
+        save(state, os.path.join(self.runtime, STATE))
+        reporter = self.reporter()
+        reporter._renew(self.tell(reporter, {"facts": facts(self.folder)}))
+        self.assertEqual(len(os.listdir(self.runtime)), 3)
+
+    def test_the_newest_state_counts(self) -> None:
+        paths = [os.path.join(self.folder, name) for name in ("a", "b", "c")]
+        for path, written in zip(paths, (5.0, 7.0)):
+            save(State(written=written), path)
+        found = last_state(*paths)
+        self.assertEqual(found.written if found else 0, 7.0)
+        self.assertIsNone(last_state(paths[2]))
+
+    def test_alarms_of_the_one_before_are_not_raised_again(self) -> None:
+        said = facts(self.folder)
+        save(State(written=time.time(), alarms=[Alarm("time-gained", time.time(), "x")]),
+             os.path.join(self.runtime, STATE))
+        reporter = self.reporter()
+        station = self.tell(reporter, {"facts": said})
+        reporter._judge(station)
+        self.assertEqual([one.text for one in station.state.alarms], ["x"])
+
+    def test_an_alarm_is_in_the_state_at_once(self) -> None:
+        reporter = self.reporter()
+        station = self.tell(reporter, {"facts": facts(self.folder)})
+        reporter.due["renew"] = time.monotonic() + 99
+        with self.assertLogs("keeper"):
+            reporter._judge(station)
+        self.assertTrue(reporter._is_due("renew", 10.0))
+        self.assertFalse(reporter._is_due("renew", 10.0))
+
+
+class Process(Folder):
+    def test_it_ends_with_what_it_reads_and_has_saved(self) -> None:
+        given = json.dumps({"facts": facts(self.folder)}) + "\n"
+        words = [sys.executable, "-B", "-m", "keeper.reporter", self.runtime]
+        done = subprocess.run(words, input=given.encode(), capture_output=True, timeout=30)
+        self.assertEqual(done.returncode, 0, done.stderr)
+        self.assertIn(b"alarm time-gained: clients get the time, from DCF", done.stderr)
+        self.assertEqual(sorted(os.listdir(self.runtime)), sorted([STATE, PAGE, METRICS]))
+        saved = load(os.path.join(self.folder, STATE))
+        self.assertEqual([one.event for one in saved.alarms], ["time-gained"])
+
+    def test_status_names_an_inverted_output_while_the_service_runs(self) -> None:
+        """The example's marks, turned: what the supervisor hands on of them, and a minute later."""
+        marks = [[start, width, start] for start, width in upside_down(log("dcf77"))[:90]]
+        lines = [{"facts": facts(self.folder, pid=os.getpid())}, {"radio": 0, "pulses": marks}]
+        words = [sys.executable, "-B", "-m", "keeper.reporter", self.runtime]
+        given = "".join(json.dumps(one) + "\n" for one in lines)
+        subprocess.run(words, input=given.encode(), capture_output=True, timeout=30, check=True)
+        out = io.StringIO()
+        with contextlib.redirect_stdout(out):
+            status.main(["--folder", self.runtime])
+        self.assertRegex(out.getvalue(), r"\n  last minute: 1\.0 marks a second, widths \S+ ms to "
+                         r"\S+ m?s: its output is the other way round: give edges_to_log.py `--low")
+        self.assertRegex(out.getvalue(), r"  8\d\d\.\d ms, 1\.0/s  ")
+
+
+if __name__ == "__main__":
+    unittest.main()
