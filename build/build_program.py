@@ -129,17 +129,22 @@ def last_lines(log: Path, crate: str | None) -> list[str]:
 
 def run(copy: Path, log: Path, build: Build) -> int:
     """Runs the toolchain's gate in the copy, shows how far it is, and returns its exit status, or STOPPED."""
-    with open(log, "w", encoding="utf-8") as notes:
-        child = subprocess.Popen(["rt", "ci"], cwd=copy, stdin=subprocess.DEVNULL, stdout=subprocess.PIPE, stderr=subprocess.STDOUT, text=True, errors="replace", start_new_session=True)
-        stopped = threading.Event()
+    stopped = threading.Event()
+    children: list[subprocess.Popen[str]] = []
 
-        def stop(*_: object) -> None:
-            stopped.set()
+    def stop(*_: object) -> None:
+        stopped.set()
+        for child in children:
             with contextlib.suppress(OSError):
                 os.killpg(child.pid, signal.SIGTERM)
 
-        for number in (signal.SIGTERM, signal.SIGINT, signal.SIGHUP):
-            signal.signal(number, stop)
+    for number in (signal.SIGTERM, signal.SIGINT, signal.SIGHUP):
+        signal.signal(number, stop)
+    with open(log, "w", encoding="utf-8") as notes:
+        child = subprocess.Popen(["rt", "ci"], cwd=copy, stdin=subprocess.DEVNULL, stdout=subprocess.PIPE, stderr=subprocess.STDOUT, text=True, errors="replace", start_new_session=True)
+        children.append(child)
+        if stopped.is_set():  # while it began
+            stop()
         ended, is_drawn = threading.Event(), sys.stderr.isatty()
         watcher = threading.Thread(target=watch, args=(build, child.pid, ended, is_drawn))
         watcher.start()
