@@ -10,7 +10,7 @@ import time
 from pathlib import Path
 
 from lab import held
-from lab.client import socket_on
+from lab.client import dropped, socket_on
 from lab.held import Held, client_ready, need, station, whole
 from lab.packets import number_of, request
 from lab.program import TOP, program
@@ -123,12 +123,6 @@ class Asker(threading.Thread):
         self.join()
         self.reader.join()
         return self.sent - len(self.answered)
-
-
-def dropped(port: int) -> int:
-    """How many datagrams the kernel dropped at the sockets of a port."""
-    rows = Path("/proc/net/udp").read_text().splitlines()[1:]
-    return sum(int(row.split()[12]) for row in rows if row.split()[1].endswith(f":{port:04X}"))
 
 
 def changes(folder: Path, count: int, rate: int) -> str:

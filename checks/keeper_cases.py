@@ -10,11 +10,9 @@ import time
 
 from checks.kept_bounds import CHANGE, CHANGES, FLOODED, GONE, KILLED, LATE, LONGEST_START, NOTHING, PYTHONS, SLOW, WARM, bound, tried
 from checks.kept_journals import as_decoded, as_steadied, due, whole
-from lab.client import ask, is_free, to_server
+from lab.client import ask, dropped, is_free, to_server
 from lab.kept import PLANS, WAIT, Kept, Wrong, base_now, descendants, parent_of, radio
 from lab.kept_machine import python_start
-
-FLOOD = 2_000_000
 
 
 def command(plan: str, base: float, history: int = 15, more: str = "") -> tuple[str, str]:
@@ -98,6 +96,22 @@ def changes(base: float) -> int:
         return looked + sum(whole(journal) for journal in kept.journals()) + as_decoded(kept)
 
 
+def thousand(base: float) -> int:
+    """A thousand changes of run under 500 requests a second: each has its answer, with the time, but those that the kernel drops."""
+    with Kept([command(plan, base) for plan in PLANS], "cycle = 2") as kept:
+        kept.start()
+        kept.waits("has the time")
+        client = kept.client(base, 500)
+        kept.waits("has the time", 1000 * CHANGES / 10, 1001)
+        met, drops = client.report(), dropped(kept.port)
+        lost = met["asked"] - met["answered"]
+        print(f"  a client met {brief(met)}; not answered: {lost}, dropped: {drops}", flush=True)
+        looked = due(met["wrong"] == 0, f"a client got a wrong time: {kept.text()}")
+        looked += due(met["timed"] == met["answered"], f"{met['answered'] - met['timed']} answers are without the time")
+        looked += due(lost <= drops, f"{lost} requests are not answered, {drops} were dropped")
+        return looked + ended(kept, 0)
+
+
 def killed(base: float) -> int:
     """The server is killed: the time comes again. The keeper is killed: nothing stays, and it can be started again."""
     with Kept([command("dcf", base), command("wwvb", base)]) as kept:
@@ -120,8 +134,8 @@ def killed(base: float) -> int:
         return looked + ended(kept, 0)
 
 
-def flood(base: float) -> int:
-    """Two million empty datagrams use up hearings: each time there is a new run at once, and no time is wrong."""
+def flood(base: float, count: int = 2_000_000) -> int:
+    """Millions of empty datagrams use up hearings: each time there is a new run at once, and no time is wrong."""
     with Kept([command("dcf", base), command("msf", base)]) as kept:
         kept.start()
         kept.waits("run 1 has the time")
@@ -131,7 +145,7 @@ def flood(base: float) -> int:
         with to_server(kept.port, None) as out:
             sent = 0
             # On a busy machine most of them find no room, so more may be needed.
-            while sent < FLOOD or (kept.text().count(") serves") < 2 and time.monotonic() - began < WAIT):
+            while sent < count or (kept.text().count(") serves") < 2 and time.monotonic() - began < WAIT):
                 for _ in range(10_000):
                     try:
                         out.send(b"")
@@ -215,19 +229,25 @@ def full_disk(base: float) -> int:
             subprocess.run(["umount", journals])
 
 
+def five_million(base: float) -> int:
+    """The flood, longer."""
+    return flood(base, 5_000_000)
+
+
 CASES = (starts, changes, killed, flood, sources, full_disk)
+LONG = (thousand, five_million)  # outside the gate: three quarters of an hour, a minute
 
 
 def main() -> int:
     signal.signal(signal.SIGTERM, lambda *_: sys.exit(143))
-    cases = {case.__name__: case for case in CASES}
+    cases = {case.__name__: case for case in CASES + LONG}
     parser = argparse.ArgumentParser(description="Runs the keeper on the built program, case by case.")
     parser.add_argument("case", nargs="*", metavar="CASE", help=", ".join(cases))
     given = parser.parse_args().case
     if not set(given) <= set(cases):
         parser.error(f"a case is one of {', '.join(cases)}")
     base, looked, bad = base_now(), 0, 0
-    for case in [cases[name] for name in given or cases]:
+    for case in [cases[name] for name in given or [case.__name__ for case in CASES]]:
         began = time.monotonic()
         try:
             looked += tried(case, base)

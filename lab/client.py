@@ -3,6 +3,7 @@
 import random
 import socket
 import time
+from pathlib import Path
 from typing import NamedTuple
 
 from lab.packets import UNIX, WHOLE, Header, read, request
@@ -67,6 +68,12 @@ def is_free(port: int) -> bool:
 def free_port() -> int:
     """Ports from 32768 on may be taken by any socket that asks for none; so one below them."""
     return next(port for port in iter(lambda: random.randrange(20000, 32000), 0) if is_free(port))
+
+
+def dropped(port: int) -> int:
+    """How many datagrams the kernel has dropped at the sockets of a port."""
+    rows = Path("/proc/net/udp").read_text(encoding="ascii").splitlines()[1:]
+    return sum(int(row.split()[12]) for row in rows if row.split()[1].endswith(f":{port:04X}"))
 
 
 def ask(port: int, wait: float = 1.0) -> Answer | None:
