@@ -104,6 +104,7 @@ class Reporter:
         paths = [os.path.join(one, STATE) for one in (self.folder, facts["folder"])]
         station = self.station = self.station or Station(last_state(*paths))
         station.take(facts)
+        self._try("the last journal", lambda: station.read_journal(facts))
         said = facts["alarms"]
         self.alarms.command, self.alarms.limit = said["command"], said["limit"]
         self.alarms.unheard = said["unheard"]
@@ -126,13 +127,13 @@ class Reporter:
         now, state = time.time(), station.state
         self._try("reception", lambda: station.renew(now))
         path = functools.partial(os.path.join, self.folder)
-        self._try(STATE, lambda: save(state, path(STATE)))
-        self._try(PAGE, lambda: put(path(PAGE), page.render(state, now)))
-        self._try(METRICS, lambda: put(path(METRICS), metrics.render(state, now)))
+        self._try(STATE, lambda: save(self.host, state, path(STATE)))
+        self._try(PAGE, lambda: put(self.host, path(PAGE), page.render(state, now)))
+        self._try(METRICS, lambda: put(self.host, path(METRICS), metrics.render(state, now)))
 
     def _save(self, station: Station) -> None:
         if self.facts["folder"] != self.folder:
-            save(station.state, os.path.join(self.facts["folder"], STATE))
+            save(self.host, station.state, os.path.join(self.facts["folder"], STATE))
 
     def _tidy(self) -> None:
         now, facts = time.time(), self.facts
@@ -163,6 +164,7 @@ class Reporter:
 def main(folder: str) -> int:
     for one in ("PYTHONPATH", "PYTHONDONTWRITEBYTECODE"):
         os.environ.pop(one, None)  # they are ours, and not of the alarms' commands
+    os.umask(0o022)  # everybody may read what is shown
     host = Host()
     say()
     reporter = Reporter(host, folder)

@@ -5,7 +5,7 @@ import collections
 import logging
 import signal
 
-from keeper.reporter.state import SILENT, Alarm, Event, RadioState, State
+from keeper.reporter.state import SILENT, Alarm, RadioState, State
 from keeper.supervisor.host import Child, Host
 from keeper.supervisor.sources import ended
 
@@ -13,6 +13,14 @@ KEPT = 20  # alarms that the state keeps, and that wait; of more the oldest is d
 GRACE = 2.0  # between SIGTERM and SIGKILL (s)
 NEVER = 900.0  # a radio alone needs ten minutes at most until clients get the time (s)
 HELD_OFF = 3600.0  # between two alarms of runs that died: a flood would send thousands (s)
+EVENTS = {
+    "time-gained": "clients get the time",
+    "time-lost": "no link has had the time for 15 s, or none 15 minutes after the start",
+    "radio-unheard": "a radio has had no verdict for `alarms.unheard`",
+    "radio-heard": "it has one again",
+    "run-died": "a run died or fell silent; at most once an hour",
+    "file-refused": "a reload was refused",
+}
 LOST = {"slept": ", since the host slept", "paused": ", since the host was paused"}
 BAD_CAUSES = {"died": "ended by itself", "silent": "didn't answer any more"}
 
@@ -40,9 +48,9 @@ class Alarms:
         for one in state.alarms:
             if one.at < state.keeper_since:
                 continue
-            if one.event in (Event.TIME_GAINED, Event.TIME_LOST):
-                self.has_time, self.time_at = one.event == Event.TIME_GAINED, one.at
-            elif one.event == Event.RUN_DIED:
+            if one.event in ("time-gained", "time-lost"):
+                self.has_time, self.time_at = one.event == "time-gained", one.at
+            elif one.event == "run-died":
                 self.died_at = one.at
 
     def judge(self, state: State, now: float) -> None:
@@ -65,14 +73,14 @@ class Alarms:
         said = f" ({run.last_status})" if run.last_status else ""
         text = f"{who} {BAD_CAUSES.get(run.cause, 'ended')}{said}; run {run.number} follows"
         self.died, self.died_at = 0, now
-        self.raise_alarm(state, Event.RUN_DIED, text, now)
+        self.raise_alarm(state, "run-died", text, now)
 
     def _judge_time(self, state: State, now: float) -> None:
         if link := state.time_link(now):
             had, self.has_time, self.time_at = self.has_time, True, now
             if not had:
                 said = f"clients get the time, from {link.reference_id}"
-                self.raise_alarm(state, Event.TIME_GAINED, said, now)
+                self.raise_alarm(state, "time-gained", said, now)
             return
         age = now - state.keeper_since
         if self.has_time and now - self.time_at >= SILENT:
@@ -85,7 +93,7 @@ class Alarms:
         else:
             return
         self.has_time = False
-        self.raise_alarm(state, Event.TIME_LOST, said, now)
+        self.raise_alarm(state, "time-lost", said, now)
 
     def _judge_radio(self, state: State, radio: RadioState, now: float) -> None:
         name = f"radio {radio.number} ({radio.name or radio.plan})"
@@ -96,11 +104,11 @@ class Alarms:
                 self.silent.add(radio.number)
                 why = f": {radio.fault}" if radio.fault else ""
                 said = f"{name} has had no verdict for {silent:.0f} s{why}"
-                self.raise_alarm(state, Event.RADIO_UNHEARD, said, now, radio.number)
+                self.raise_alarm(state, "radio-unheard", said, now, radio.number)
         elif radio.number in self.silent and radio.minute_at > begun:
             self.silent.discard(radio.number)
             said = f"{name} is received again"
-            self.raise_alarm(state, Event.RADIO_HEARD, said, now, radio.number)
+            self.raise_alarm(state, "radio-heard", said, now, radio.number)
 
     def move(self, step: float) -> None:
         """The host's clock was set forward by this number of seconds."""
@@ -110,7 +118,7 @@ class Alarms:
     def raise_alarm(self, state: State, event: str, text: str, now: float,
                     radio: int | None = None) -> None:
         """Puts an alarm into the state, says it on standard error, and has the command run."""
-        state.alarms.append(Alarm(str(event), now, text))
+        state.alarms.append(Alarm(event, now, text))
         del state.alarms[:-KEPT]
         log.warning("alarm %s: %s", event, text)
         if self.command:

@@ -6,7 +6,7 @@ from enum import IntEnum
 
 from keeper.durations import length, span
 from keeper.reporter.rules import PLANS
-from keeper.reporter.state import SILENT, Event, LinkState, RadioState, State
+from keeper.reporter.state import SILENT, LinkState, RadioState, State
 
 GONE = -1  # `keeper_pid` where the keeper is no process any more, and hasn't said that it ends
 STALE = 60.0  # a state that is older was left by a keeper that has ended (s)
@@ -92,7 +92,7 @@ def _warnings(state: State, now: float) -> Iterator[str]:
         when = "has expired" if left < 0 else f"expires in {span(left)}"
         yield f"the leap second file {when}"
     first = max(now - DIED, state.keeper_since)
-    died = [one for one in state.alarms if one.event == Event.RUN_DIED and first < one.at <= now]
+    died = [one for one in state.alarms if one.event == "run-died" and first < one.at <= now]
     yield from (f"{one.text}, {span(now - one.at)} ago" for one in died[-3:])
     yield from state.notes
 

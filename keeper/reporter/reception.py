@@ -56,10 +56,10 @@ def _wrapped(phase: int) -> int:
 
 
 class Reception:
-    """Keeps one radio's state. `delay` is the station's (s)."""
+    """Keeps one radio's state."""
 
-    def __init__(self, radio: RadioState, delay: float = 0.0) -> None:
-        self.radio, self.delay = radio, delay
+    def __init__(self, radio: RadioState) -> None:
+        self.radio = radio
         self.minutes: collections.deque[tuple[float, str]] = collections.deque()
         self.pulses: collections.deque[tuple[int, int]] = collections.deque()
         self.spread, self.spread_given = Spread(), Spread()
@@ -97,11 +97,13 @@ class Reception:
         if kind == "verdict":
             radio = self.radio
             radio.minute, radio.minute_at = float(int(words[3]) - EPOCH), at
-            radio.offset = round(radio.minute - close + self.delay, 6)
+            radio.offset = round(radio.minute - close + radio.delay, 6)
 
     def move(self, step: float) -> None:
         """The host's clock was set forward by this number of seconds."""
         self.minutes = collections.deque((at + step, kind) for at, kind in self.minutes)
+        self.radio.since += step
+        self.radio.minute_at += step if self.radio.minute_at else 0.0
 
     def _quarter(self, at: float) -> Quarter:
         """The quarter of an hour of a moment."""

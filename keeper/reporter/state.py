@@ -9,17 +9,15 @@ missing has its default, and a file of another version is refused. What a field 
 """
 
 import collections
-import contextlib
 import dataclasses
-import functools
 import json
-import os
 import types
 import typing
-from collections.abc import Mapping
 from dataclasses import dataclass
-from enum import StrEnum
 from typing import Any
+
+from keeper.supervisor import disk
+from keeper.supervisor.host import Host
 
 VERSION = 1  # of the file's form
 LATEST = 2**35  # moments, spans and rates lie between this and its negative: the year 3058
@@ -32,24 +30,6 @@ SILENT = 15.0  # a link that hasn't answered for so long is silent (s)
 
 class StateError(Exception):
     """The state can't be had: the text says which file and why, in one sentence."""
-
-
-class Event(StrEnum):
-    """What raises an alarm, and what that means."""
-
-    about: str
-
-    def __new__(cls, name: str, about: str) -> "Event":
-        one = str.__new__(cls, name)
-        one._value_, one.about = name, about
-        return one
-
-    TIME_GAINED = "time-gained", "clients get the time"
-    TIME_LOST = "time-lost", "no link has had the time for 15 s, or none 15 minutes after the start"
-    RADIO_UNHEARD = "radio-unheard", "a radio has had no verdict for `alarms.unheard`"
-    RADIO_HEARD = "radio-heard", "it has one again"
-    RUN_DIED = "run-died", "a run died or fell silent; at most once an hour"
-    FILE_REFUSED = "file-refused", "a reload was refused"
 
 
 def has(default: Any, about: str) -> Any:
@@ -207,27 +187,21 @@ class State:
         return next((one for one in self.links if one.has_time(now)), None)
 
 
-@functools.cache
-def _types(kind: Any) -> Mapping[str, Any]:
-    return typing.get_type_hints(kind)
-
-
-def _built(kind: Any, value: Any, where: str) -> Any:
+def built(kind: Any, value: Any, where: str) -> Any:
     """The value of this type from what JSON has; raises ValueError with the field's name."""
     if dataclasses.is_dataclass(kind):
         if not isinstance(value, dict):
             raise ValueError(f"{where} is no table")
         known = [one for one in dataclasses.fields(kind) if one.name in value]
-        found = {one.name: _built(_types(kind)[one.name], value[one.name], f"{where}.{one.name}")
-                 for one in known}
-        return typing.cast(Any, kind)(**found)
+        return typing.cast(Any, kind)(**{
+            one.name: built(one.type, value[one.name], f"{where}.{one.name}") for one in known})
     form, inner = typing.get_origin(kind), typing.get_args(kind)
     if form is types.UnionType:
-        return None if value is None else _built(inner[0], value, where)
+        return None if value is None else built(inner[0], value, where)
     if form is list and isinstance(value, list):
-        return [_built(inner[0], one, f"{where}.{number}") for number, one in enumerate(value)]
+        return [built(inner[0], one, f"{where}.{number}") for number, one in enumerate(value)]
     if form is dict and isinstance(value, dict):
-        return {name: _built(inner[1], one, f"{where}.{name}") for name, one in value.items()}
+        return {name: built(inner[1], one, f"{where}.{name}") for name, one in value.items()}
     bound = {float: LATEST, int: MOST}.get(kind)
     if bound and type(value) in (int, float) and not -bound < value < bound:  # NaN is out too
         raise ValueError(f"{where} is out of range")
@@ -243,7 +217,7 @@ def read(text: str) -> State:
     found = json.loads(text)
     if not isinstance(found, dict) or found.get("version") != VERSION:
         raise ValueError(f"it isn't of version {VERSION}")
-    state: State = _built(State, found, "state")
+    state: State = built(State, found, "state")
     return state
 
 
@@ -258,24 +232,11 @@ def load(path: str) -> State:
         raise StateError(f"{path} is no state of a keeper: {error}") from error
 
 
-def put(path: str, text: str) -> None:
-    """Writes a text for others to read: whole, or not at all. Raises OSError and then leaves
-    nothing. Whoever may write in that folder could have put a link in the part's place: none is
-    followed."""
-    part, how = f"{path}.part", os.O_WRONLY | os.O_CREAT | os.O_EXCL | os.O_NOFOLLOW
-    with contextlib.suppress(FileNotFoundError):
-        os.unlink(part)
-    try:
-        with open(os.open(part, how, 0o644), "wb") as file:
-            file.write(text.encode(errors="backslashreplace"))
-            os.fchmod(file.fileno(), 0o644)
-        os.replace(part, path)
-    except OSError:
-        with contextlib.suppress(OSError):
-            os.unlink(part)
-        raise
+def put(host: Host, path: str, text: str) -> None:
+    """Writes a text for others to read: whole, or not at all. Raises OSError."""
+    disk.put(host, path, text.encode(errors="backslashreplace"), sync=False)
 
 
-def save(state: State, path: str) -> None:
+def save(host: Host, state: State, path: str) -> None:
     """Writes the state, renamed into place. Raises OSError."""
-    put(path, json.dumps(state, default=vars, separators=(",", ":")) + "\n")
+    put(host, path, json.dumps(state, default=vars, separators=(",", ":")) + "\n")

@@ -9,25 +9,18 @@ from typing import Any
 from keeper.reporter.decoder import Decoder
 from keeper.reporter.journal import expiry, read_journal
 from keeper.reporter.reception import Reception
-from keeper.reporter.state import (DRIFT, Alarm, LeapFileState, LinkState, RadioState, ServerState,
-                                   State)
+from keeper.reporter.state import (DRIFT, LeapFileState, LinkState, RadioState, RunState,
+                                   ServerState, State, built)
 
 Facts = Mapping[str, Any]  # service.json, as the supervisor writes it
 LATE = 600.0  # events that are older than their facts by this raise no alarm (s)
 
 
-def take_fields(into: Any, values: Mapping[str, Any], *names: str) -> None:
-    """Some fields of a state, as they are in what the supervisor says."""
-    for name in names:
-        setattr(into, name, values[name])
-
-
 class Radio:
-    """A radio: its state, its reception, and a `decode` beside it."""
+    """A radio: its reception, and a `decode` beside it."""
 
-    def __init__(self, state: RadioState, program: str, delay: float) -> None:
-        self.program = program
-        self.reception = Reception(state, delay)
+    def __init__(self, state: RadioState, program: str) -> None:
+        self.reception = Reception(state)
         self.decoder = Decoder(program, state.plan, self._take)
 
     def _take(self, line: str) -> None:
@@ -42,82 +35,72 @@ class Radio:
 
 
 class Station:
-    """`state` is what is shown. `take` takes facts, `heard` pulses. `before` is the state of a
-    reporter before this one."""
+    """`state` is what is shown: at first that of a reporter before this one. `take` takes facts,
+    `heard` pulses."""
 
     def __init__(self, before: State | None) -> None:
-        self.state = State()
-        self.before = before
+        self.state = before or State()
+        self.state.leap_file = None  # the file may be another one by now
         self.radios: list[Radio] = []
+        self.sources: list[tuple[str, int, str, str]] = []  # what `radios` are of
         self.journal = ""  # the last that was read
         self.events = 0  # the last that was seen
         self.news: list[Facts] = []  # events that are to be alarms
 
     def take(self, facts: Facts) -> None:
         """What the supervisor knows."""
-        self._take_settings(facts)
         state = self.state
+        for name in ("station", "bound", "cycle", "notes"):
+            setattr(state, name, facts[name])
         state.keeper_since, state.keeper_pid = facts["since"], facts["pid"]
-        state.notes = list(facts["notes"])
-        take_fields(state.run, facts["run"], "number", "since", "cause", "pid", "last_status",
-                    "last_journal")
+        state.run = built(RunState, facts["run"], "run")
         state.links = [_link(one, state.bound) for one in facts["links"]]
-        for radio, said in zip(state.radios, facts["radios"]):
-            take_fields(radio, said, "source", "restarts", "pulses", "bad_lines", "last_bad",
-                        "pulse_at")
+        self._take_radios(facts)
+        self._take_servers(facts)
         new = [one for one in facts["events"] if one["number"] > self.events]
         self.events = max([self.events, *(one["number"] for one in new)])
         self.news += [one for one in new if facts["at"] - one["at"] < LATE]
-        self._read_journal(facts)
 
-    def _take_settings(self, facts: Facts) -> None:
-        """What only a start or a reload changes. What was known of a radio or a server is kept."""
-        state, before = self.state, self.before or self.state
-        self.before = None
-        state.alarms = before.alarms
-        take_fields(state, facts, "station", "bound", "cycle")
-        have = [(one.number, one.plan, one.origin) for one in state.radios]
-        said = [(one["number"], one["plan"], one["origin"]) for one in facts["radios"]]
-        if said != have or any(one.program != facts["program"] for one in self.radios):
-            self._take_radios(facts, before)
-        for radio, one in zip(state.radios, facts["radios"]):
-            take_fields(radio, one, "name", "delay", "steady")
+    def _take_radios(self, facts: Facts) -> None:
+        """What was known of a radio is kept where its number and plan are."""
+        state, said = self.state, facts["radios"]
+        now = [(facts["program"], one["number"], one["plan"], one["origin"]) for one in said]
+        if now != self.sources:
+            self.close()
+            old = {(one.number, one.plan): one for one in state.radios}
+            known = [old.get((one["number"], one["plan"]), RadioState()) for one in said]
+            state.radios = [RadioState(since=facts["at"], plan=one["plan"], minute=was.minute,
+                                       minute_at=was.minute_at, reception=was.reception)
+                            for one, was in zip(said, known)]
+            self.radios = [Radio(one, facts["program"]) for one in state.radios]
+            self.sources = now
+        for radio, one in zip(state.radios, said):
+            vars(radio).update(one)
+
+    def _take_servers(self, facts: Facts) -> None:
+        """The servers and the leap second file, which a start or a reload alone changes."""
+        state = self.state
         servers = [(str(address), int(port)) for address, port in facts["servers"]]
         if servers != [(one.address, one.port) for one in state.servers]:
-            old = {(one.address, one.port): one for one in before.servers}
+            old = {(one.address, one.port): one for one in state.servers}
             # Two of one address are two.
             state.servers = [old.pop(one, ServerState(0, *one)) for one in servers]
         for number, server in enumerate(state.servers, len(state.radios)):
             server.number = number
-        path = facts["leap_file"]
-        if path is None:
-            state.leap_file = None
-        elif state.leap_file is None or state.leap_file.path != path:
-            number = len(state.radios) + len(state.servers)
-            state.leap_file = LeapFileState(number, path, expires=expiry(path))
+        path, number = facts["leap_file"], len(state.radios) + len(servers)
+        if path != (state.leap_file and state.leap_file.path):
+            state.leap_file = path and LeapFileState(number, path, expires=expiry(path))
 
-    def _take_radios(self, facts: Facts, before: State) -> None:
-        old = {(one.number, one.plan): one for one in before.radios}
-        self.close()
-        self.state.radios, self.radios = [], []
-        for said in facts["radios"]:
-            radio = RadioState(since=facts["at"])
-            take_fields(radio, said, "number", "plan", "origin")
-            if known := old.get((radio.number, radio.plan)):
-                radio.reception = known.reception
-                radio.minute, radio.minute_at = known.minute, known.minute_at
-            self.state.radios.append(radio)
-            self.radios.append(Radio(radio, facts["program"], said["delay"]))
-
-    def _read_journal(self, facts: Facts) -> None:
-        name, state = facts["run"]["last_journal"], self.state
-        if not name or name == self.journal:
+    def read_journal(self, facts: Facts) -> None:
+        """Reads the last run's journal once. Raises OSError."""
+        name, state = os.path.basename(facts["run"]["last_journal"]), self.state
+        if name in ("", self.journal):
             return
         self.journal = name
         if state.leap_file:
             state.leap_file.expires = expiry(state.leap_file.path)
         if state.servers or state.leap_file:
-            path = os.path.join(facts["folder"], "journals", os.path.basename(name))
+            path = os.path.join(facts["folder"], "journals", name)
             read_journal(path, state, time.time() - time.monotonic())
 
     def heard(self, number: int, pulses: list[list[int]]) -> None:
@@ -133,24 +116,22 @@ class Station:
     def renew(self, now: float) -> None:
         """Puts in what only time changes. What lies ahead was noted while the host's clock was
         wrong."""
-        state = self.state
         for radio in self.radios:
             radio.reception.renew(now)
-        state.alarms = [Alarm(one.event, min(one.at, now), one.text) for one in state.alarms]
-        for server in state.servers:
+        for alarm in self.state.alarms:
+            alarm.at = min(alarm.at, now)
+        for server in self.state.servers:
             server.sample_at = min(server.sample_at, now)
-        state.written = now
+        self.state.written = now
 
     def move(self, step: float) -> None:
         """The host's clock was set forward by this number of seconds: what was noted by it moves
         with it, so that ages stay right. The picture of the day stays."""
-        state = self.state
-        state.alarms = [Alarm(one.event, one.at + step, one.text) for one in state.alarms]
-        for radio, own in zip(state.radios, self.radios):
-            own.reception.move(step)
-            radio.minute_at += step if radio.minute_at else 0.0
-            radio.since += step
-        for server in state.servers:
+        for alarm in self.state.alarms:
+            alarm.at += step
+        for radio in self.radios:
+            radio.reception.move(step)
+        for server in self.state.servers:
             server.sample_at += step if server.sample_at else 0.0
 
     def close(self) -> None:
@@ -159,7 +140,7 @@ class Station:
 
 
 def _link(said: Facts, bound: float) -> LinkState:
-    link = LinkState(**{name: value for name, value in said.items() if name != "came"})
+    link: LinkState = built(LinkState, said, "link")
     if link.has_time(link.answered_at):
         link.until = said["came"] + max(0.0, bound - link.root_dispersion) / DRIFT
     return link

@@ -4,7 +4,7 @@ browser. Nothing of it was measured."""
 import random
 from collections.abc import Callable
 
-from keeper.reporter.state import (Alarm, Event, LeapFileState, LinkState, Quarter, RadioState,
+from keeper.reporter.state import (Alarm, LeapFileState, LinkState, Quarter, RadioState,
                                    RunState, ServerState, State)
 
 NOW = 1767269100.0  # 2026-01-01 12:05:00 UTC
@@ -53,8 +53,8 @@ def made_station(now: float) -> State:
     leap = LeapFileState(5, "/usr/share/zoneinfo/leap-seconds.list", 27, 1483228800.0,
                          now + 150 * 86400)
     alarms = [
-        Alarm(Event.RADIO_UNHEARD, now - 24_000, "radio 2 (wwvb) has had no verdict for 3600 s"),
-        Alarm(Event.RADIO_HEARD, now - 22_800, "radio 2 (wwvb) is received again")]
+        Alarm("radio-unheard", now - 24_000, "radio 2 (wwvb) has had no verdict for 3600 s"),
+        Alarm("radio-heard", now - 22_800, "radio 2 (wwvb) is received again")]
     return State(
         written=now, keeper_since=now - 279_000, keeper_pid=1,
         station="/etc/radio_ntpd/station.toml", bound=0.5,

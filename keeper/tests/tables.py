@@ -6,12 +6,13 @@ import typing
 from collections.abc import Iterator
 
 from keeper.reporter import metrics
-from keeper.reporter.state import Event, State
+from keeper.reporter.alarms import EVENTS
+from keeper.reporter.state import State
 
 
 def alarms() -> list[str]:
     """A row for each event that raises an alarm."""
-    return [f"| `{one}` | {one.about} |" for one in Event]
+    return [f"| `{one}` | {about} |" for one, about in EVENTS.items()]
 
 
 def families() -> list[str]:

@@ -56,7 +56,7 @@ class Running(Folder):
         settings = Mock(folder=os.path.join(self.folder, "state"))
         self.assertFalse(check.keeper_runs(settings))
         os.mkdir(settings.folder)
-        save(State(written=time.time()), os.path.join(settings.folder, "state.json"))
+        save(Host(), State(written=time.time()), os.path.join(settings.folder, "state.json"))
         self.assertFalse(check.keeper_runs(settings))
         keeper = lock.take(Host(), settings.folder)
         self.assertTrue(check.keeper_runs(settings))

@@ -14,6 +14,7 @@ from unittest import mock
 
 from keeper import __main__, chosen_file
 from keeper.reporter.state import State, save
+from keeper.supervisor.host import Host
 
 KEEPER = pathlib.Path(__file__).parent.parent.parent / "radio_keeper"
 
@@ -101,7 +102,7 @@ class CommandLine(unittest.TestCase):
             self.assertEqual(self.started(*words, stdout=full).returncode, 71)
 
     def test_watch_draws_until_it_is_interrupted(self):
-        save(State(written=time.time(), keeper_pid=1), os.path.join(self.folder, "state.json"))
+        save(Host(), State(written=time.time(), keeper_pid=1), os.path.join(self.folder, "state.json"))
         # What a shell runs in the background ignores SIGINT, and so does all that it starts.
         words = [KEEPER, "watch", "--every", "0.2", "--folder", self.folder]
         heeds = functools.partial(signal.signal, signal.SIGINT, signal.SIG_DFL)

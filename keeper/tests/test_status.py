@@ -12,6 +12,7 @@ from unittest import mock
 
 from keeper import status
 from keeper.reporter.state import save
+from keeper.supervisor.host import Host
 from keeper.tests.made_station import a_good_station
 from keeper.tests.test_station_state import facts as said_by_the_supervisor
 from keeper.errors import Fault
@@ -31,7 +32,7 @@ class Files(unittest.TestCase):
 
     def test_where_the_reporter_stands_still_the_supervisors_word_counts(self):
         now = time.time()
-        save(a_good_station(now - 500), os.path.join(self.folder, "state.json"))
+        save(Host(), a_good_station(now - 500), os.path.join(self.folder, "state.json"))
         facts = {
             **said_by_the_supervisor(self.folder, radios=[]), "at": now, "since": now - 900,
             "pid": os.getpid()}
@@ -45,13 +46,13 @@ class Files(unittest.TestCase):
 
     def test_status_in_each_form(self):
         now = time.time()
-        save(a_good_station(now), os.path.join(self.folder, "state.json"))
+        save(Host(), a_good_station(now), os.path.join(self.folder, "state.json"))
         told, said = self.run_status()
         self.assertEqual((told, said.split(":")[0]), (0, "OK"))
         self.assertEqual(json.loads(self.run_status("--json")[1])["run"]["number"], 7)
         self.assertIn("radio_ntpd_runs_total 7\n", self.run_status("--prometheus")[1])
         self.assertEqual(self.run_status("--nagios")[0], 0)
-        save(a_good_station(now - 100), os.path.join(self.folder, "state.json"))
+        save(Host(), a_good_station(now - 100), os.path.join(self.folder, "state.json"))
         told, said = self.run_status("--nagios")
         self.assertEqual(told, 2)
         self.assertRegex(said, r"\ARADIO_NTPD CRITICAL: no keeper runs[^\n]*\n\Z")
@@ -64,7 +65,7 @@ class Files(unittest.TestCase):
         self.addCleanup(keeper.kill)
         state = a_good_station(time.time())
         state.keeper_pid = keeper.pid
-        save(state, os.path.join(self.folder, "state.json"))
+        save(Host(), state, os.path.join(self.folder, "state.json"))
         self.assertEqual(self.run_status()[0], 0)
         keeper.kill()
         keeper.wait()
@@ -83,7 +84,7 @@ class Files(unittest.TestCase):
         self.assertIn("radio_keeper watch: --every is 0.2 to 3600 seconds\n", said.getvalue())
 
     def test_nagios(self):
-        save(a_good_station(time.time()), os.path.join(self.folder, "state.json"))
+        save(Host(), a_good_station(time.time()), os.path.join(self.folder, "state.json"))
         self.assertEqual(self.run_status("--nagios"), (
             0, "RADIO_NTPD OK: time from DCF, stratum 1, root dispersion 5.4 ms | "
             "root_dispersion_123=0.005400s;;0.5 verdicts_0=58;;;0;60\n"))
