@@ -7,42 +7,23 @@ import io
 import os
 import sys
 
-from keeper import VERSION
+from keeper.arguments import parse
 from keeper.errors import DONE, HOST, INTERRUPTED, USAGE, Fault, sentence
 
-COMMANDS = {
-    "run": "keeps the station's server running",
-    "reload": "has it read both files anew",
-    "status": "says how the station is",
-    "watch": "the same, redrawn until it is interrupted",
-    "check": "looks at both files, the host and the receivers before a start",
-    "install": "installs the keeper as a service",
-    "calibrate": "says which delay to set for a radio",
-}
 OF_THE_SERVICE = ("start", "stop", "restart", "enable", "disable")
 MODULES = {"watch": "status"}  # `watch` is a way of `status`
 
 
-def usage() -> str:
-    lines = [f"  {name:<10} {what}" for name, what in COMMANDS.items()]
-    more = "radio_keeper COMMAND --help lists the arguments of each; so has man radio_keeper."
-    return "\n".join(["usage: radio_keeper COMMAND [ARGUMENT...]", "", *lines, "", more])
-
-
 def dispatch(words: list[str]) -> int:
     """The exit status of these words. Raises what the commands raise."""
-    command = words[0] if words else ""
-    if command in ("--help", "-h", "--version"):
-        print(f"radio_keeper {VERSION}" if command == "--version" else usage())
-        return DONE
-    if command not in COMMANDS:
-        said = f"there is no command {command!r}" if words else "which command?"
-        if command in OF_THE_SERVICE:
-            said += f": `systemctl {command} radio_ntpd` is meant for the service"
-        print(f"{usage()}\n\nradio_keeper: {said}", file=sys.stderr)
-        return USAGE
-    module = importlib.import_module(f"keeper.{MODULES.get(command, command)}")
-    return module.main(words[1:], command) if command in MODULES else module.main(words[1:])
+    if words and words[0] in OF_THE_SERVICE:
+        raise Fault(f"`systemctl {words[0]} radio_ntpd` is meant for the service", USAGE)
+    try:
+        asked = parse(words)
+    except SystemExit as end:  # by --help, by --version, or since they are not valid
+        return int(end.code or DONE)
+    module = importlib.import_module(f"keeper.{MODULES.get(asked.command, asked.command)}")
+    return int(module.main(asked))
 
 
 def main(words: list[str]) -> int:

@@ -1,5 +1,6 @@
 """`calibrate`: which delay to set for a radio, by a server's time or the host's clock."""
 
+import argparse
 import dataclasses
 import os
 import sys
@@ -8,7 +9,7 @@ import time
 from keeper import config
 from keeper.check import keeper_runs
 from keeper.chosen_file import chosen
-from keeper.errors import DONE, NOT_WELL, Fault, Parser
+from keeper.errors import DONE, NOT_WELL, Fault
 from keeper.host_checks import become_service
 from keeper.lateness import LEAST, Minute, Minutes, result, sentences
 from keeper.reference import HostClock, Server
@@ -19,36 +20,11 @@ from keeper.supervisor.pulses import Lines
 from keeper.supervisor.host import Host
 from keeper.supervisor.sources import Ended, Source, source_of
 
-MINUTES = 60
-# The first minute is cut, and the next one has none before it to agree with; a minute of a sender
-# may have begun, too.
-FEWEST = LEAST + 3
 REPORTS = 20  # how often it says how far it is
-PACE = 64  # seconds between two requests to a server
-RANGES = (("pace", 16, 1024), ("minutes", FEWEST, 10080), ("port", 1, 65535))
 
 
-def parser() -> Parser:
-    words = Parser(prog="radio_keeper calibrate", description="Says which delay to set for a "
-                   "radio, by a server's time or the host's clock.")
-    words.add_config()
-    words.add_argument("--radio", type=int, default=0, help="its number, from 0 (0)")
-    words.add_argument("--server", metavar="ADDRESS",
-                       help="compare with this server; without it the host's clock counts")
-    words.add_argument("--port", type=int, default=123, help="the server's port (123)")
-    words.add_argument("--pace", type=int, default=PACE,
-                       help=f"seconds between two requests to it, 16 to 1024 ({PACE})")
-    words.add_argument("--minutes", type=int, default=MINUTES,
-                       help=f"how long to listen, {FEWEST} to 10080 ({MINUTES})")
-    return words
-
-
-def main(given: list[str]) -> int:
-    words = parser()
-    asked = words.parse_args(given)
-    for name, least, most in RANGES:
-        if not least <= getattr(asked, name) <= most:
-            words.error(f"--{name} is {least} to {most}")
+def main(asked: argparse.Namespace) -> int:
+    """The exit status."""
     settings = config.load(chosen(asked.config))
     become_service(settings)
     config.judge(settings)

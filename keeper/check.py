@@ -1,38 +1,26 @@
 """`check`: both files, the host, and some seconds of each receiver, before a start. It changes
 nothing."""
 
+import argparse
 import os
 import time
 
 from keeper import config, host_checks, lock
 from keeper.chosen_file import chosen
-from keeper.errors import DONE, NOT_WELL, Fault, Parser
+from keeper.errors import DONE, NOT_WELL, Fault
 from keeper.log_lines import judge_log, look
 from keeper.receiver import Finding, Level
 from keeper.supervisor.host import Host
 from keeper.supervisor.sources import Ended, Source, source_of
 
-SECONDS = 10
 LEAST_BOUND = 0.005  # the least root dispersion that a radio has (s)
 EARLY_BOUND = 0.945  # at the fourth verdict a radio's root dispersion may be so great (s)
 RAW_BOUND = 0.05  # up to this bound marks need not be steadied (s)
 MOST = 1 << 20  # bytes that are looked at of a radio; a source that writes more writes noise
 
 
-def parser() -> Parser:
-    words = Parser(prog="radio_keeper check",
-                   description="Looks at both files, the host and the receivers. Changes nothing.")
-    words.add_config()
-    words.add_argument("--seconds", type=int, default=SECONDS, help="how long each receiver is "
-                       f"read, 0 to 600; 0 leaves that out ({SECONDS})")
-    return words
-
-
-def main(given: list[str]) -> int:
-    words = parser()
-    asked = words.parse_args(given)
-    if not 0 <= asked.seconds <= 600:
-        words.error("--seconds is 0 to 600")
+def main(asked: argparse.Namespace) -> int:
+    """The exit status."""
     settings = config.load(chosen(asked.config))
     found = [tell((Level.WELL, f"{settings.path}: every key is known and in range"))]
     running = keeper_runs(settings)

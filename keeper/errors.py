@@ -1,10 +1,7 @@
 """How a command ends when it can't be done: exit statuses, `Fault`, and the sentences on what the
 program or the host says."""
 
-import argparse
 import re
-import sys
-from typing import NoReturn
 
 DONE = 0
 NOT_WELL = 1  # what was asked for was done, and something isn't well
@@ -22,20 +19,6 @@ class Fault(Exception):
     def __init__(self, text: str, status: int = HOST):
         super().__init__(text)
         self.status = status
-
-
-class Parser(argparse.ArgumentParser):
-    """An ArgumentParser that ends with our exit status where the arguments are not valid."""
-
-    def error(self, message: str) -> NoReturn:
-        self.print_usage(sys.stderr)
-        print(f"{self.prog}: {message}", file=sys.stderr)
-        sys.exit(USAGE)
-
-    def add_config(self) -> None:
-        """The option that each command has."""
-        self.add_argument("--config", metavar="FILE",
-                          help="the keeper's file (keeper.toml here or in /etc/radio_ntpd)")
 
 
 def reason(said: bytes) -> str:

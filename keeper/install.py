@@ -1,5 +1,6 @@
 """`install`: the keeper as a service. Without `--do` it only says what it would do."""
 
+import argparse
 import grp
 import os
 import runpy
@@ -11,7 +12,7 @@ from pathlib import Path
 
 from keeper.chosen_file import BUILT, built_program
 from keeper.whole_files import LINK, Tree, file_at, has_tree, put_file, put_folder
-from keeper.errors import DONE, Fault, Parser
+from keeper.errors import DONE, Fault
 
 Step = tuple[str, Callable[[], object]]  # what is done, and what does it
 USER = "radio_ntpd"
@@ -26,21 +27,6 @@ MODEL = ("__init__.py", "entry.py", "figures.py", "notes.py", "page.py", "select
 LIMIT = 60.0  # for a command of the host, in seconds
 TOP = Path(__file__).resolve().parent.parent
 AGE = TOP / "build/built_program.py"  # says whether a checkout's program is of its sources
-
-
-def parser() -> Parser:
-    words = Parser(prog="radio_keeper install", description="Installs program, keeper, pages and"
-                   " units. Says what it would do; --do does it.")
-    words.add_argument("--do", action="store_true", help="do it")
-    words.add_argument("--remove", action="store_true",
-                       help=f"take it all away again, but for {SETTINGS} and {HOME}")
-    words.add_argument("--root", default="/", metavar="DIR", help="put the files below DIR, and"
-                       " make no user and start nothing: for packages")
-    words.add_argument("--prefix", default="/usr/local",
-                       help="where programs and pages go (/usr/local)")
-    words.add_argument("--program", metavar="FILE",
-                       help="the built program, where it isn't in this folder")
-    return words
 
 
 class Places:
@@ -168,8 +154,8 @@ def next_words(places: Places, done: bool) -> str:
             " then `systemctl enable --now radio_ntpd`, then `radio_keeper status`")
 
 
-def main(given: list[str]) -> int:
-    asked = parser().parse_args(given)
+def main(asked: argparse.Namespace) -> int:
+    """The exit status."""
     if not asked.prefix.startswith("/"):
         raise Fault("--prefix is no whole path")
     root = os.path.abspath(asked.root).rstrip("/")

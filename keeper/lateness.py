@@ -11,6 +11,9 @@ MINUTE = 60_000_000  # (us)
 KEPT = 20 * MINUTE  # marks that may be of a minute that `decode` closes later
 WILD = 0.1  # a mark that lies so far off its second is none of it (s)
 LEAST = 5  # with fewer minutes nothing is said
+# The first minute is cut, and the next one has none before it to agree with; a minute of a sender
+# may have begun, too.
+FEWEST = LEAST + 3
 MOST_DELAY = 0.1  # the greatest delay of a station (s)
 GROUPS = 3  # minutes are split into this number of parts by the widths of their marks
 

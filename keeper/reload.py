@@ -1,5 +1,6 @@
 """`reload`: has the keeper that runs read both files anew, and says whether it took them."""
 
+import argparse
 import json
 import os
 import signal
@@ -9,23 +10,15 @@ from keeper import config
 from keeper.check import keeper_runs
 from keeper.chosen_file import chosen
 from keeper.supervisor.reports import FACTS
-from keeper.errors import DONE, REFUSED, Fault, Parser
+from keeper.errors import DONE, REFUSED, Fault
 
 WAIT = 40.0  # for the keeper's word, in seconds
 LOOK = 0.05
 
 
-def parser() -> Parser:
-    words = Parser(prog="radio_keeper reload", description="Has the keeper that runs read both "
-                   "files anew. Where they are refused all goes on as it was.")
-    words.add_argument("--config", metavar="FILE",
-                       help="the keeper's file (keeper.toml here or in /etc/radio_ntpd)")
-    return words
-
-
-def main(given: list[str]) -> int:
+def main(asked: argparse.Namespace) -> int:
     """The exit status: 78 where the keeper refuses a file."""
-    settings = config.load(chosen(parser().parse_args(given).config))
+    settings = config.load(chosen(asked.config))
     path = os.path.join(settings.runtime, FACTS)
     if not keeper_runs(settings):
         raise Fault(f"no keeper has {settings.folder}")

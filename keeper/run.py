@@ -1,20 +1,16 @@
 """`./radio_keeper run`: keeps the station's server running until SIGTERM or SIGINT."""
 
+import argparse
+
 from keeper import config
 from keeper.chosen_file import chosen
 from keeper.supervisor.host import Host, say, take_signals
 from keeper.supervisor.supervisor import Supervisor
-from keeper.errors import Parser
 
 
-def main(words: list[str]) -> int:
+def main(asked: argparse.Namespace) -> int:
     """The exit status."""
-    said = ("Keeps the station's server running until SIGTERM or SIGINT; "
-            "SIGHUP reads both files anew.")
-    parser = Parser(prog="radio_keeper run", description=said)
-    parser.add_argument("--config",
-                        help="the keeper's file (keeper.toml here or in /etc/radio_ntpd)")
-    settings = config.load(chosen(parser.parse_args(words).config))
+    settings = config.load(chosen(asked.config))
     config.judge(settings)
     host = Host()
     take_signals(host)

@@ -1,5 +1,6 @@
 """`status` and `watch`: the state of a station for a person, for a program, for Nagios."""
 
+import argparse
 import contextlib
 import dataclasses
 import json
@@ -9,7 +10,7 @@ import time
 
 from keeper.config import read
 from keeper.durations import span
-from keeper.errors import DONE, UNKNOWN, Fault, Parser
+from keeper.errors import DONE, UNKNOWN, Fault
 from keeper.reporter import metrics, overview
 from keeper.reporter.__main__ import STATE
 from keeper.reporter.health import GONE, Level, judge, summary, worst
@@ -23,32 +24,12 @@ FILES = ("keeper.toml", "/etc/radio_ntpd/keeper.toml")
 CLEAR = "\033[H\033[2J"
 
 
-def parser(command: str) -> Parser:
-    words = Parser(prog=f"radio_keeper {command}", description="Says how the station is, from the "
-                   "file that the keeper renews every ten seconds.")
-    words.add_config()
-    words.add_argument("--folder", help="where the state is, in place of what that file says")
-    if command == "watch":
-        words.add_argument("--every", type=float, default=2.0, metavar="SECONDS",
-                           help="how often it is redrawn, 0.2 to 3600 (2)")
-        return words
-    form = words.add_mutually_exclusive_group()
-    form.add_argument("--json", action="store_true", help="the whole state as JSON")
-    form.add_argument("--nagios", action="store_true",
-                      help="one line, and the exit status 0, 1, 2 or 3 of a Nagios plugin")
-    form.add_argument("--prometheus", action="store_true", help="what the node exporter reads")
-    return words
-
-
-def main(given: list[str], command: str = "status") -> int:
-    words = parser(command)
-    asked = words.parse_args(given)
-    if command == "status" and asked.nagios:
+def main(asked: argparse.Namespace) -> int:
+    """The exit status."""
+    if asked.command == "status" and asked.nagios:
         return nagios(asked.folder, asked.config)
     folders = [asked.folder] if asked.folder else folders_of(asked.config)
-    if command == "watch":
-        if not 0.2 <= asked.every <= 3600:
-            words.error("--every is 0.2 to 3600 seconds")
+    if asked.command == "watch":
         return watch(folders, asked.every)
     try:
         written, now = last(folders), time.time()

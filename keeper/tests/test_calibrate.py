@@ -12,6 +12,7 @@ import unittest
 from unittest import mock
 
 from keeper import calibrate, lock
+from keeper.arguments import parse
 from keeper.errors import Fault
 from keeper.supervisor.clocks import counter, tag_of
 from keeper.supervisor.logs import PulseLog
@@ -69,15 +70,18 @@ class Whole(unittest.TestCase):
         return [f"{round((second - self.shift) * 1e6) + self.LATE} 100000"
                 for second in range(first, first + 838)]
 
+    def asked(self, *words):
+        return parse(["calibrate", *words])
+
     def calibrate(self, seconds):
         out = io.StringIO()
         real = calibrate.listen
-        words = ["--config", os.path.join(self.folder, "keeper.toml"), "--minutes", "8"]
+        asked = self.asked("--config", os.path.join(self.folder, "keeper.toml"), "--minutes", "8")
         shorter = mock.patch.object(
             calibrate, "listen", lambda settings, number, reference, _: real(
                 settings, number, reference, seconds))
         with shorter, contextlib.redirect_stdout(out), contextlib.redirect_stderr(self.said):
-            return calibrate.main(words), out.getvalue()
+            return calibrate.main(asked), out.getvalue()
 
     def test_by_the_source(self):
         self.write("marks", "\n".join(self.marks()) + "\n")
@@ -113,7 +117,7 @@ class Whole(unittest.TestCase):
         self.settings("sleep 60")
         for name in ("no..such", "x" * 64 + ".example", "256.1.1.1"):
             with self.assertRaisesRegex(Fault, "the server .* can't be asked: "):
-                calibrate.main(["--config", f"{self.folder}/keeper.toml", "--server", name])
+                calibrate.main(self.asked("--config", f"{self.folder}/keeper.toml", "--server", name))
 
     def test_a_program_that_is_not_there(self):
         self.settings("sleep 60", "nosuch")
@@ -131,9 +135,9 @@ class Whole(unittest.TestCase):
         for minutes in ("0", "5", "7", "10081"):
             said = io.StringIO()
             with self.assertRaises(SystemExit) as ended, contextlib.redirect_stderr(said):
-                calibrate.main(["--config", "/nosuch", "--minutes", minutes])
+                self.asked("--minutes", minutes)
             self.assertEqual(ended.exception.code, 64)
-            self.assertIn("--minutes is 8 to 10080", said.getvalue())
+            self.assertIn(f"argument --minutes: {minutes} isn't 8 to 10080", said.getvalue())
 
     def test_it_says_how_far_it_is(self):
         self.write("marks", "\n".join(self.marks()) + "\n")

@@ -13,6 +13,7 @@ from unittest import mock
 from unittest.mock import Mock
 
 from keeper import check, config, lock
+from keeper.arguments import parse
 from keeper.config import Radio
 from keeper.errors import REFUSED, Fault
 from keeper.receiver import Level
@@ -72,7 +73,8 @@ class Whole(Folder):
         self.write("program", f"#!/bin/sh\necho '{says}'\nexit {ends}\n", 0o755)
         out = io.StringIO()
         with contextlib.redirect_stdout(out):
-            status = check.main(["--config", os.path.join(self.folder, "keeper.toml"), *words])
+            path = os.path.join(self.folder, "keeper.toml")
+            status = check.main(parse(["check", "--config", path, *words]))
         return status, out.getvalue()
 
     def marks(self, width: object) -> str:

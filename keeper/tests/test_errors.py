@@ -1,10 +1,8 @@
-"""Sentences on what the program or the host says, and how arguments are refused."""
+"""Sentences on what the program or the host says."""
 
-import contextlib
-import io
 import unittest
 
-from keeper.errors import Fault, Parser, reason, sentence, with_port
+from keeper.errors import Fault, reason, sentence, with_port
 
 
 class Sentences(unittest.TestCase):
@@ -30,18 +28,6 @@ class Sentences(unittest.TestCase):
 
     def test_a_fault_has_the_status_of_a_host_that_refuses(self) -> None:
         self.assertEqual((Fault("x").status, Fault("x", 78).status), (71, 78))
-
-
-class Arguments(unittest.TestCase):
-    def test_what_is_not_valid_ends_with_64(self) -> None:
-        words = Parser(prog="radio_keeper x")
-        words.add_config()
-        said = io.StringIO()
-        with contextlib.redirect_stderr(said), self.assertRaises(SystemExit) as ended:
-            words.parse_args(["--confug"])
-        self.assertEqual(ended.exception.code, 64)
-        self.assertTrue(said.getvalue().endswith(
-            "\nradio_keeper x: unrecognized arguments: --confug\n"), said.getvalue())
 
 
 if __name__ == "__main__":

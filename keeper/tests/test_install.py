@@ -12,6 +12,7 @@ import unittest
 from unittest import mock
 
 from keeper import VERSION, install, status, whole_files
+from keeper.arguments import parse
 from keeper.errors import Fault
 
 
@@ -31,7 +32,7 @@ class Install(unittest.TestCase):
     def install(self, *words):
         out = io.StringIO()
         with contextlib.redirect_stdout(out):
-            self.assertEqual(install.main([*words, "--root", self.root, "--program", self.program]), 0)
+            self.assertEqual(install.main(parse(["install", *words, "--root", self.root, "--program", self.program])), 0)
         return out.getvalue().splitlines()
 
     def files(self):
@@ -343,9 +344,9 @@ class Install(unittest.TestCase):
 
     def test_what_is_refused_before_anything_is_done(self):
         with mock.patch("keeper.install.os.geteuid", lambda: 1000), self.assertRaisesRegex(Fault, "^only root can do that"):
-            install.main(["--do", "--program", self.program])
+            install.main(parse(["install", "--do", "--program", self.program]))
         with self.assertRaisesRegex(Fault, "^--prefix is no whole path$"):
-            install.main(["--root", self.root, "--prefix", "usr"])
+            install.main(parse(["install", "--root", self.root, "--prefix", "usr"]))
         self.assertFalse(os.path.exists(self.root))
 
     def test_the_service_may_read_its_settings_and_others_may_not(self):
@@ -437,7 +438,7 @@ class Sentences(unittest.TestCase):
     def test_a_program_that_is_not_there(self) -> None:
         said = "there is no built program /nosuch: build it, or name it with --program"
         with self.assertRaisesRegex(Fault, said):
-            install.main(["--program", "/nosuch"])
+            install.main(parse(["install", "--program", "/nosuch"]))
         words = install.next_words(install.Places("/", "/usr"), True)
         self.assertTrue(words.endswith(
             "then `systemctl enable --now radio_ntpd`, then `radio_keeper status`"))

@@ -69,7 +69,7 @@ class CommandLine(unittest.TestCase):
             told, _, said = self.run_keeper(word)
             why = f"`systemctl {word} radio_ntpd` is meant for the service"
             self.assertEqual((told, said.splitlines()[-1]),
-                             (64, f"radio_keeper: there is no command {word!r}: {why}"))
+                             (64, f"radio_keeper {word}: {why}"))
 
     def test_no_file(self):
         for command in ("run", "check", "calibrate"):

@@ -5,7 +5,7 @@ import pathlib
 import re
 import unittest
 
-from keeper import __main__, calibrate, check, config, errors, install, reload, status
+from keeper import arguments, config, errors, install
 from keeper.reporter.__main__ import METRICS, PAGE, STATE
 from keeper.reporter.alarms import EVENTS, Alarms
 from keeper.reporter.state import Alarm, State
@@ -93,7 +93,7 @@ class Names(unittest.TestCase):
             self.assertIn(f"| `{event}` |", EVENING)
 
     def test_each_command_file_and_status(self) -> None:
-        for command in __main__.COMMANDS:
+        for command in arguments.COMMANDS:
             self.assertIn(f"\n.It Cm {command}\n", MANUAL)
         for name in (STATE, PAGE, METRICS):
             self.assertIn(name, MANUAL)
@@ -110,10 +110,7 @@ class Names(unittest.TestCase):
             self.assertIn(name, MANUAL)
 
     def test_each_option(self) -> None:
-        parsers = (status.parser("status"), status.parser("watch"), check.parser(),
-                   install.parser(), calibrate.parser(), reload.parser())
-        for parser in parsers:
-            command = parser.prog.split()[1]
+        for command, parser in arguments.parsers()[1].items():
             synopsis = re.search(rf"(?ms)^\.Cm {command}$(.*?)^\.Nm$", MANUAL)
             assert synopsis, command
             for option in parser._option_string_actions:

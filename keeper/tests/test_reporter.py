@@ -11,6 +11,7 @@ import unittest
 from unittest import mock
 
 from keeper import status
+from keeper.arguments import parse
 from keeper.reporter.__main__ import METRICS, PAGE, STATE, Reporter, last_state
 from keeper.reporter.state import Alarm, State, load, save
 from keeper.reporter.station_state import Station
@@ -128,7 +129,7 @@ class Process(Folder):
         subprocess.run(words, input=given.encode(), capture_output=True, timeout=30, check=True)
         out = io.StringIO()
         with contextlib.redirect_stdout(out):
-            status.main(["--folder", self.runtime])
+            status.main(parse(["status", "--folder", self.runtime]))
         self.assertRegex(out.getvalue(), r"\n  last minute: 1\.0 marks a second, widths \S+ ms to "
                          r"\S+ m?s: its output is the other way round: give edges_to_log.py `--low")
         self.assertRegex(out.getvalue(), r"  8\d\d\.\d ms, 1\.0/s  ")

@@ -11,6 +11,7 @@ import unittest
 from unittest import mock
 
 from keeper import status
+from keeper.arguments import parse
 from keeper.reporter.state import save
 from keeper.supervisor.host import Host
 from keeper.tests.made_station import a_good_station
@@ -27,7 +28,7 @@ class Files(unittest.TestCase):
     def run_status(self, *words):
         out = io.StringIO()
         with contextlib.redirect_stdout(out):
-            told = status.main([*words, "--folder", self.folder])
+            told = status.main(parse(["status", *words, "--folder", self.folder]))
         return told, out.getvalue()
 
     def test_where_the_reporter_stands_still_the_supervisors_word_counts(self):
@@ -79,9 +80,9 @@ class Files(unittest.TestCase):
     def test_how_often_a_state_is_redrawn(self):
         said = io.StringIO()
         with contextlib.redirect_stderr(said), self.assertRaises(SystemExit) as ended:
-            status.main(["--every", "0.1"], "watch")
+            parse(["watch", "--every", "0.1"])
         self.assertEqual(ended.exception.code, 64)
-        self.assertIn("radio_keeper watch: --every is 0.2 to 3600 seconds\n", said.getvalue())
+        self.assertIn("radio_keeper watch: argument --every: 0.1 isn't 0.2 to 3600\n", said.getvalue())
 
     def test_nagios(self):
         save(Host(), a_good_station(time.time()), os.path.join(self.folder, "state.json"))
@@ -114,7 +115,7 @@ class Files(unittest.TestCase):
                     status.folders_of(path)
                 out = io.StringIO()
                 with contextlib.redirect_stdout(out):
-                    self.assertEqual(status.main(["--nagios", "--config", path]), 3)
+                    self.assertEqual(status.main(parse(["status", "--nagios", "--config", path])), 3)
                 self.assertRegex(out.getvalue(), r"\ARADIO_NTPD UNKNOWN: [^\n|]*\n\Z")
 
     def test_a_file_that_is_not_for_everybody(self):
