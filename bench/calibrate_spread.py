@@ -8,7 +8,8 @@ import argparse
 import statistics
 
 from bench.known_logs import BEGIN, FIRST, since_1900
-from keeper.lateness import Minutes, result
+from keeper.lateness import minutes_of, result
+from keeper.supervisor.pulses import Pulse
 from lab import ends
 from lab.packets import UNIX
 from lab.receiver import MINUTE, SECOND, Faults, made_log
@@ -21,13 +22,13 @@ OUTLIERS = 0.03
 def worked_out(plan: str, jitter: float, minutes: int, seed: int) -> tuple[float, float]:
     """By how much the lag of a receiver is off, and its standard error as it is printed, in milliseconds. Each minute is believed."""
     first = since_1900(FIRST)
-    taken = Minutes(first - UNIX - BEGIN / SECOND)
+    pulses, lines = list[Pulse](), list[str]()
     for true, start, width in made_log(plan, FIRST, minutes, Faults(jitter=1000 * jitter, outliers=OUTLIERS, lag=LAG), seed, BEGIN):
-        taken.pulse(start, width)
+        pulses.append(Pulse(start, width))
         since = true - BEGIN
         if since and since % MINUTE == 0:
-            taken.take(f"0 {start} verdict {first + since // SECOND} 0")
-    found = result(taken.found)
+            lines.append(f"0 {start} verdict {first + since // SECOND} 0")
+    found = result(minutes_of(pulses, lines, first - UNIX - BEGIN / SECOND))
     assert found is not None, "each minute is believed"
     return 1000 * found.late - LAG / 1000, 1000 * found.error
 

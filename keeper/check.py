@@ -4,6 +4,7 @@ nothing."""
 import argparse
 import os
 import time
+from collections.abc import Iterator
 
 from keeper import config, host_checks, lock
 from keeper.chosen_file import chosen
@@ -95,12 +96,18 @@ def hear(settings: config.Settings, place: int, seconds: int) -> list[Finding]:
     radio = settings.radios[place]
     name = host_checks.name_of(place, radio)
     print(f"      {name} is read for {seconds} s ..", flush=True)
-    host = Host()
+    host, received, ended, left = Host(), list[tuple[int, bytes]](), "", MOST
     try:
-        pieces, ended = listen(host, source_of(host, radio.kind, radio.value), seconds)
+        for piece in pieces(host, source_of(host, radio.kind, radio.value), seconds):
+            received.append(piece)
+            left -= len(piece[1])
+            if left < 0:
+                break
+    except Ended as error:
+        ended = str(error)
     except OSError as error:
         return [(Level.BAD, f"{name}: its source can't be begun: {error.strerror}")]
-    seen = look(pieces, seconds, time.monotonic(), time.time())
+    seen = look(received, seconds, time.monotonic(), time.time())
     if radio.kind == "file" and not seen.lines:
         need = "something has to write to it, and a recording is for `radio_ntpd decode`"
         return [(Level.BAD, f"{name}: nothing was added to {radio.value}: {need}")]
@@ -108,20 +115,14 @@ def hear(settings: config.Settings, place: int, seconds: int) -> list[Finding]:
     return found + [(level, f"{name}: {said}") for level, said in judge_log(seen, radio.plan)]
 
 
-def listen(host: Host, source: Source,
-           seconds: float) -> tuple[list[tuple[int, bytes]], str]:
+def pieces(host: Host, source: Source, seconds: float) -> Iterator[tuple[int, bytes]]:
     """What a source writes within a number of seconds, each piece with when it came (us of the
-    monotonic clock), and how it ended, if it did. Raises OSError."""
-    pieces: list[tuple[int, bytes]] = []
-    ended, left, end = "", MOST, time.monotonic() + seconds
+    monotonic clock); b"" where nothing came for a fifth of a second. Raises OSError and Ended."""
+    end = time.monotonic() + seconds
     source.begin()
     try:
-        while (wait := end - time.monotonic()) > 0 and left > 0:
+        while (wait := end - time.monotonic()) > 0:
             host.wait([source.awaits] if source.awaits >= 0 else [], min(wait, 0.2))
-            pieces.append((time.monotonic_ns() // 1000, source.read()))
-            left -= len(pieces[-1][1])
-    except Ended as error:
-        ended = str(error)
+            yield time.monotonic_ns() // 1000, source.read()
     finally:
         source.close()
-    return pieces, ended

@@ -1,14 +1,15 @@
 """How late a radio's marks come: minutes that `decode` believed, and what delay follows."""
 
-import collections
+import bisect
 import statistics
-from dataclasses import dataclass
+from collections.abc import Iterable
+from dataclasses import dataclass, replace
 
 from keeper.ntp import EPOCH
 from keeper.reporter.rules import PLANS
+from keeper.supervisor.pulses import Pulse
 
 MINUTE = 60_000_000  # (us)
-KEPT = 20 * MINUTE  # marks that may be of a minute that `decode` closes later
 WILD = 0.1  # a mark that lies so far off its second is none of it (s)
 LEAST = 5  # with fewer minutes nothing is said
 # The first minute is cut, and the next one has none before it to agree with; a minute of a sender
@@ -29,6 +30,10 @@ class Minute:
     closing: float
     width: float
 
+    def moved(self, offset: float) -> "Minute":
+        """The same by a clock that is ahead of the host's by this (s)."""
+        return replace(self, late=self.late + offset, closing=self.closing + offset)
+
 
 @dataclass(frozen=True)
 class Result:
@@ -43,39 +48,31 @@ class Result:
     groups: list[tuple[float, float]]
 
 
-class Minutes:
-    """Takes pulses and the lines of `decode`, and keeps the minutes. `shift` is what is to be added
-    to the counter to have Unix seconds."""
+def minutes_of(pulses: list[Pulse], lines: Iterable[str], shift: float) -> list[Minute]:
+    """The minutes of these pulses that these lines of `decode` believe. `shift` is what is to be
+    added to the counter to have Unix seconds."""
+    words = [line.split() for line in lines]
+    found = [_minute(pulses, int(one[1]), int(one[3]) - EPOCH, shift) for one in words
+             if len(one) == 5 and one[2] == "verdict"]
+    return [one for one in found if one]
 
-    def __init__(self, shift: float) -> None:
-        self.shift = shift
-        self.pulses: collections.deque[tuple[int, int]] = collections.deque()
-        self.found: list[Minute] = []
 
-    def pulse(self, start: int, width: int) -> None:
-        self.pulses.append((start, width))
-        while self.pulses[0][0] < start - KEPT:
-            self.pulses.popleft()
+def _minute(pulses: list[Pulse], close: int, second: int, shift: float) -> Minute | None:
+    """The minute that closed with this second at this moment of the counter (us)."""
+    first = bisect.bisect_left(pulses, close - MINUTE - 500_000, key=lambda one: one.start)
+    last = bisect.bisect_right(pulses, close, key=lambda one: one.start)
+    marks = pulses[first:last]
 
-    def take(self, line: str) -> None:
-        """A line of `decode`; only verdicts count."""
-        words = line.split()
-        if len(words) != 5 or words[2] != "verdict":
-            return
-        close, second = int(words[1]), int(words[3]) - EPOCH
-        marks = [one for one in self.pulses if close - MINUTE - 500_000 <= one[0] <= close]
-        closing = self._late(close, close, second)
-        late = [one for start, _ in marks
-                if abs((one := self._late(start, close, second)) - closing) < WILD]
-        if late:
-            widths = sorted(width for _, width in marks)
-            width = statistics.median(widths[:len(widths) // 2 + 1]) / 1e6
-            at = close / 1e6 + self.shift
-            self.found.append(Minute(at, statistics.median(late), closing, width))
+    def lateness(start: int) -> float:
+        return start / 1e6 + shift - (second + round((start - close) / 1e6))
 
-    def _late(self, start: int, close: int, second: int) -> float:
-        """How late a mark of the minute came that closed with this second."""
-        return start / 1e6 + self.shift - (second + round((start - close) / 1e6))
+    closing = lateness(close)
+    late = [one for mark in marks if abs((one := lateness(mark.start)) - closing) < WILD]
+    if not late:
+        return None
+    widths = sorted(mark.width for mark in marks)
+    width = statistics.median(widths[:len(widths) // 2 + 1]) / 1e6
+    return Minute(close / 1e6 + shift, statistics.median(late), closing, width)
 
 
 def deviation(values: list[float]) -> float:

@@ -1,4 +1,4 @@
-"""What a radio is compared with: the host's clock, or a server that is asked in turn."""
+"""A server that is asked in turn: what a radio is compared with."""
 
 import socket
 import time
@@ -20,27 +20,8 @@ class Exchange:
     delay: float
 
 
-class HostClock:
-    """The host's own clock."""
-
-    def turn(self, now: float) -> None:
-        """There is nothing to ask."""
-
-    def offset_at(self, at: float) -> float | None:
-        """What is to be added to the host's clock at a moment (Unix s); None where it isn't
-        known."""
-        return 0.0
-
-    def words(self) -> str:
-        """What it is."""
-        return "the host's clock, which has to be good by itself: `chronyc tracking` says how good"
-
-    def close(self) -> None:
-        """There is nothing to give back."""
-
-
-class Server(HostClock):
-    """A server that is asked once in `pace` seconds. Raises OSError or UnicodeError where it has no
+class Server:
+    """It is asked once in `pace` seconds. Raises OSError or UnicodeError where it has no
     address."""
 
     def __init__(self, address: str, port: int, pace: float) -> None:
@@ -86,15 +67,15 @@ class Server(HostClock):
         return None
 
     def offset_at(self, at: float) -> float | None:
+        """What is to be added to the host's clock at a moment (Unix s); None where it isn't
+        known."""
         nearest = sorted(self.found, key=lambda one: abs(one.at - at))[:NEAREST]
         return min(nearest, key=lambda one: one.delay).offset if nearest else None
 
     def words(self) -> str:
+        """How good it is."""
         if not self.found:
             return f"it never answered with a time ({self.refused} refusals)"
         best = min(one.delay for one in self.found) * 1e3
         return (f"{len(self.found)} exchanges, the best of {best:.2f} ms there and back: its time "
                 f"is known within {best / 2:.2f} ms")
-
-    def close(self) -> None:
-        self.socket.close()

@@ -144,7 +144,7 @@ class Whole(unittest.TestCase):
         self.settings(f"cat {self.folder}/marks; exec sleep 60")
         self.calibrate(4.0)
         self.assertRegex(self.said.getvalue(),
-                         r"(?m)^\d\d:\d\d:\d\d 0 of 0 min: 1[1-4] minutes were believed$")
+                         r"(?m)^\d\d:\d\d:\d\d 0 of 0 min: 8[34][0-9] pulses were read$")
         self.assertLessEqual(self.said.getvalue().count("\n"), calibrate.REPORTS)
 
     def test_too_little(self):

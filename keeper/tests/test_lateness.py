@@ -3,12 +3,13 @@
 import random
 import unittest
 
-from keeper.lateness import Minute, Minutes, Result, result, sentences
+from keeper.lateness import Minute, Result, minutes_of, result, sentences
+from keeper.supervisor.pulses import Pulse
 
 EPOCH = 2208988800
 
 
-def minutes_of(late: float, sigma: float, count: int, seed: int = 1) -> list[Minute]:
+def made(late: float, sigma: float, count: int, seed: int = 1) -> list[Minute]:
     chance = random.Random(seed)
     return [Minute(60.0 * place, late + chance.gauss(0, sigma / 7), late + chance.gauss(0, sigma),
                    0.1) for place in range(count)]
@@ -16,14 +17,13 @@ def minutes_of(late: float, sigma: float, count: int, seed: int = 1) -> list[Min
 
 class Lateness(unittest.TestCase):
     def test_marks_of_a_minute(self):
-        minutes = Minutes(1000.0)
+        pulses = []
         for second in range(61):
             start = 5_000_000 + second * 1_000_000 + 34_000 + (second % 3 - 1) * 500
-            minutes.pulse(start, 200_000 if second % 4 == 0 else 100_000)
-        minutes.pulse(65_230_000, 100_000)
+            pulses.append(Pulse(start, 200_000 if second % 4 == 0 else 100_000))
+        pulses.append(Pulse(65_230_000, 100_000))
         # The mark of counter 65.034 s began Unix second 1065.
-        minutes.take(f"0 65033500 verdict {1065 + EPOCH} 0")
-        (one,) = minutes.found
+        (one,) = minutes_of(pulses, [f"0 65033500 verdict {1065 + EPOCH} 0"], 1000.0)
         self.assertAlmostEqual(one.at, 1065.0335)
         self.assertAlmostEqual(one.late, 0.034)
         self.assertAlmostEqual(one.closing, 0.0335)
@@ -31,32 +31,29 @@ class Lateness(unittest.TestCase):
 
     def test_second_parts_are_no_marks_of_a_second(self):
         """As MSF has them: some hundred milliseconds after the second's own mark."""
-        minutes = Minutes(1000.0)
+        pulses = []
         for second in range(61):
             for part in (0, 250_000, 330_000):
-                minutes.pulse(5_000_000 + second * 1_000_000 + 34_000 + part, 100_000)
-        minutes.take(f"0 65034000 verdict {1065 + EPOCH} 0")
-        self.assertAlmostEqual(minutes.found[0].late, 0.034)
+                pulses.append(Pulse(5_000_000 + second * 1_000_000 + 34_000 + part, 100_000))
+        (one,) = minutes_of(pulses, [f"0 65034000 verdict {1065 + EPOCH} 0"], 1000.0)
+        self.assertAlmostEqual(one.late, 0.034)
 
     def test_other_lines_do_not_count(self):
-        minutes = Minutes(0.0)
-        minutes.pulse(1, 1)
-        for line in ("", "0 1 lone 5", "0 1 refused 2", "0 1 differs 1 2 3", "status 0"):
-            minutes.take(line)
-        self.assertEqual(minutes.found, [])
+        lines = ("", "0 1 lone 5", "0 1 refused 2", "0 1 differs 1 2 3", "status 0")
+        self.assertEqual(minutes_of([Pulse(1, 1)], lines, 0.0), [])
 
     def test_the_result(self):
-        found = result(minutes_of(0.0342, 0.004, 400))
+        found = result(made(0.0342, 0.004, 400))
         self.assertAlmostEqual(found.late, 0.0342, delta=4 * found.error)
         self.assertLess(found.error, 0.0001)
         self.assertAlmostEqual(found.spread, 0.004, delta=0.0008)
         self.assertEqual(found.groups, [])
         self.assertEqual(sentences(found, "dcf", 1400)[-1], "set in the station file: delay = "
                          f"{round(found.late * 1e6)} (it is 1400)")
-        self.assertIsNone(result(minutes_of(0.1, 0.001, 4)))
+        self.assertIsNone(result(made(0.1, 0.001, 4)))
 
     def test_outliers_do_not_move_it(self):
-        minutes = minutes_of(0.02, 0.001, 50) + [Minute(0.0, 0.9, 0.9, 0.1)] * 5
+        minutes = made(0.02, 0.001, 50) + [Minute(0.0, 0.9, 0.9, 0.1)] * 5
         self.assertAlmostEqual(result(minutes).late, 0.02, delta=0.0002)
 
     def test_one_that_wanders_with_the_signal(self):
@@ -71,7 +68,7 @@ class Lateness(unittest.TestCase):
 
     def test_one_that_no_delay_fits(self):
         for late in (-0.003, 0.101):
-            said = sentences(result(minutes_of(late, 0.0001, 9)), "msf", 0)[-1]
+            said = sentences(result(made(late, 0.0001, 9)), "msf", 0)[-1]
             self.assertEqual(said, "no delay fits, which is 0 to 100 ms: the reference is off, or "
                                    "the receiver's output is the other way round")
 

@@ -7,7 +7,7 @@ import threading
 import time
 import unittest
 
-from keeper.reference import Exchange, HostClock, Server
+from keeper.reference import Exchange, Server
 
 EPOCH = 2208988800
 
@@ -53,7 +53,7 @@ class Servers(unittest.TestCase):
             self.assertTrue(all(abs(one.offset - 0.25) < 1.0 for one in server.found))
             self.assertRegex(server.words(), "[0-9]+ exchanges, the best of [0-9.]+ ms there and")
         finally:
-            server.close()
+            server.socket.close()
             fake.socket.sendto(b"", ("127.0.0.1", fake.port))
             fake.close()
 
@@ -65,7 +65,7 @@ class Servers(unittest.TestCase):
         server.turn(1.005)
         self.assertEqual((server.words(), server.offset_at(0.0)),
                          ("it never answered with a time (1 refusals)", None))
-        server.close()
+        server.socket.close()
         fake.socket.sendto(b"", ("127.0.0.1", fake.port))
         fake.close()
 
@@ -78,7 +78,7 @@ class Servers(unittest.TestCase):
             self.assertAlmostEqual(time.monotonic() - began, 1.0, delta=0.5)
             server.turn(began + 15.9)
             self.assertEqual(server.refused, 1)
-            server.close()
+            server.socket.close()
 
     def test_the_best_of_the_nearest_counts(self):
         """Of the five nearest exchanges the one that took least."""
@@ -87,7 +87,7 @@ class Servers(unittest.TestCase):
         self.assertEqual([server.offset_at(at) for at in (0.0, 240.0, 9e9)], [4.0, 6.0, 7.0])
         self.assertEqual(server.words(), "8 exchanges, the best of 30.00 ms there and back: its "
                                          "time is known within 15.00 ms")
-        server.close()
+        server.socket.close()
 
     def test_one_that_is_not_there(self):
         with socket.socket(socket.AF_INET, socket.SOCK_DGRAM) as other:
@@ -99,10 +99,7 @@ class Servers(unittest.TestCase):
             time.sleep(0.02)
         self.assertIsNone(server.offset_at(0.0))
         self.assertIn("never answered", server.words())
-        server.close()
-
-    def test_the_host(self):
-        self.assertEqual(HostClock().offset_at(5.0), 0.0)
+        server.socket.close()
 
 
 if __name__ == "__main__":
