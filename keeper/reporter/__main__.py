@@ -16,6 +16,7 @@ import sys
 import time
 from collections.abc import Callable
 
+from keeper import config
 from keeper.reporter import metrics, page
 from keeper.reporter.alarms import Alarms
 from keeper.reporter.state import State, StateError, load, put, save
@@ -105,9 +106,7 @@ class Reporter:
         station = self.station = self.station or Station(last_state(*paths))
         station.take(facts)
         self._try("the last journal", lambda: station.read_journal(facts))
-        said = facts["alarms"]
-        self.alarms.command, self.alarms.limit = said["command"], said["limit"]
-        self.alarms.unheard = said["unheard"]
+        self.alarms.settings = config.Alarms(**facts["alarms"])
         if begins:
             self.alarms.recall(station.state)
 
@@ -118,7 +117,7 @@ class Reporter:
             self.alarms.raise_alarm(state, one["event"], one["text"], one["at"])
         station.news.clear()
         self.alarms.judge(state, time.time())
-        self.alarms.commands.turn(time.monotonic())
+        self.alarms.commands.turn()
         if state.alarms[-1:] != last:
             self.due["renew"] = 0.0  # so that one that is killed doesn't raise it again
 
@@ -141,7 +140,7 @@ class Reporter:
         for name in ("logs", "journals"):
             folder = os.path.join(facts["folder"], name)
             if os.path.isdir(folder):
-                tidy(folder, day_of(now), facts["days"], facts["room"], recent)
+                tidy(self.host, folder, day_of(now), facts["days"], facts["room"], recent)
 
     def _try(self, what: str, part: Callable[[], None]) -> None:
         """Whatever goes wrong in one part leaves the others alone; it is said once."""

@@ -3,14 +3,15 @@ time, and holds nothing up."""
 
 import collections
 import logging
-import signal
 
+from keeper import config
+from keeper.errors import ended
 from keeper.reporter.state import SILENT, Alarm, RadioState, State
 from keeper.supervisor.host import Child, Host
-from keeper.supervisor.sources import ended
 
 KEPT = 20  # alarms that the state keeps, and that wait; of more the oldest is dropped
 GRACE = 2.0  # between SIGTERM and SIGKILL (s)
+TOO_LONG = 124, -9  # how `timeout` ends once it has sent the one or the other
 NEVER = 900.0  # a radio alone needs ten minutes at most until clients get the time (s)
 HELD_OFF = 3600.0  # between two alarms of runs that died: a flood would send thousands (s)
 EVENTS = {
@@ -28,12 +29,10 @@ log = logging.getLogger(__name__)
 
 
 class Alarms:
-    """`command` is what the shell runs, empty for none; `unheard` after how many seconds without a
-    verdict a radio counts as unheard; `limit` how many seconds a command may run; `state_file` is
-    the name that commands get."""
+    """`settings` are those of the keeper's file, and `state_file` the name that commands get."""
 
     def __init__(self, host: Host, state_file: str = "") -> None:
-        self.command, self.unheard, self.limit = "", 3600.0, 30.0
+        self.settings = config.Alarms()
         self.commands = Commands(host)
         self.state_file = state_file
         self.has_time: bool | None = None
@@ -99,7 +98,7 @@ class Alarms:
         name = f"radio {radio.number} ({radio.name or radio.plan})"
         begun = max(state.keeper_since, radio.since)
         silent = now - max(radio.minute_at, begun)
-        if silent >= self.unheard:
+        if silent >= self.settings.unheard:
             if radio.number not in self.silent:
                 self.silent.add(radio.number)
                 why = f": {radio.fault}" if radio.fault else ""
@@ -121,9 +120,10 @@ class Alarms:
         state.alarms.append(Alarm(event, now, text))
         del state.alarms[:-KEPT]
         log.warning("alarm %s: %s", event, text)
-        if self.command:
+        if self.settings.command:
             environment = self.environment(state, state.alarms[-1], radio)
-            self.commands.waiting.append((self.command, self.limit, environment))
+            command = self.settings.command, self.settings.limit, environment
+            self.commands.waiting.append(command)
 
     def environment(self, state: State, alarm: Alarm, radio: int | None) -> dict[str, str]:
         """What a command learns of an alarm."""
@@ -149,36 +149,25 @@ class Commands:
         self.waiting: collections.deque[tuple[str, float, dict[str, str]]]
         self.waiting = collections.deque(maxlen=KEPT)
         self.child: Child | None = None
-        self.limit = self.end = 0.0
-        self.is_asked_to_end = False
 
-    def turn(self, now: float) -> None:
-        """Ends a command that takes too long and starts the next one (`now` in monotonic s). Call
-        it once a second or more often."""
-        if self.child is not None and not self._has_ended(self.child, now):
-            return
+    def turn(self) -> None:
+        """Starts the next one where none runs. Call it once a second or more often."""
+        if self.child:
+            status = self.host.status(self.child)
+            if status is None:
+                return
+            if status in TOO_LONG:
+                log.warning("the alarm's command was killed: it took too long")
+            elif status:
+                log.warning("the alarm's command %s", ended(status))
+            self.close()
         if self.waiting:
-            command, self.limit, environment = self.waiting.popleft()
-            self.end, self.is_asked_to_end = now + self.limit, False
-            words = ["/bin/sh", "-c", command]
+            command, limit, environment = self.waiting.popleft()
+            words = ["timeout", "-k", str(GRACE), str(limit), "/bin/sh", "-c", command]
             try:
                 self.child = self.host.spawn(words, standard=(-1, 2, 2), environment=environment)
             except OSError as error:
                 log.warning("the alarm's command can't be started: %s", error.strerror)
-
-    def _has_ended(self, child: Child, now: float) -> bool:
-        status = self.host.status(child)
-        if status is None and now < self.end + GRACE:
-            if now >= self.end and not self.is_asked_to_end:
-                self.is_asked_to_end = True
-                self.host.kill(child, signal.SIGTERM)
-            return False
-        if status:
-            log.warning("the alarm's command %s", ended(status))
-        elif status is None:
-            log.warning("the alarm's command was killed: it took more than %.0f s", self.limit)
-        self.close()
-        return True
 
     def close(self) -> None:
         """Ends a command that still runs, and all that it started."""

@@ -7,9 +7,12 @@ import gzip
 import os
 import re
 
+from keeper.supervisor import disk
+from keeper.supervisor.host import Host
+from keeper.supervisor.logs import MOST as LOG
+
 # Whatever has a day in its name, and belongs to us.
 DATED = re.compile(r"(?:\d+-[a-z]+\.)?(\d{8})[T.][\w-]+\.(?:log|log\.gz|journal|own)(?:\.part)?")
-PART = ".part"
 
 
 def later(day: str, days: int) -> str:
@@ -18,57 +21,19 @@ def later(day: str, days: int) -> str:
     return parsed.strftime("%Y%m%d")
 
 
-def compress(path: str) -> None:
-    """Puts PATH.gz in the place of a log, whole or not at all, without what a power cut left at its
-    end: zeros, or half a line. Beside one that is there already it has a name of its own, as where
-    the host's clock was set back over midnight. No link is followed. Raises OSError."""
-    part, place = path + ".gz" + PART, 0
-    _remove(part)
-    with (open(os.open(path, os.O_RDONLY | os.O_NOFOLLOW), "rb") as log,
-          open(os.open(part, os.O_RDWR | os.O_CREAT | os.O_EXCL, 0o640), "wb") as file):
-        with gzip.GzipFile("", "wb", 6, file, 0) as packed:
-            for line in log:
-                if b"\0" in line or not line.endswith(b"\n"):
-                    break
-                place += packed.write(line)
-        file.flush()
-        os.fsync(file.fileno())
-    if place:
-        os.rename(part, _free(path, part))
-        _sync_folder(os.path.dirname(path))
-    else:
-        _remove(part)
-    os.unlink(path)
-
-
-def _free(path: str, part: str) -> str:
-    """The name for a log's compressed part: one that isn't taken, or has the same in it."""
+def compress(host: Host, path: str) -> str:
+    """Puts PATH.gz in the place of a log, without what a power cut left at its end, and gives its
+    name. Beside one that is there already it has a name of its own, as where the host's clock was
+    set back over midnight. No link is followed. Raises OSError."""
     free, number = path + ".gz", 1
-    while os.path.exists(free) and _end(free) != _end(part):
-        number += 1
-        free = f"{path.removesuffix('.log')}_{number}.log.gz"
+    if whole := disk.whole(disk.read_all(host, path, LOG)):
+        packed = gzip.compress(whole, 6, mtime=0)
+        while os.path.lexists(free) and disk.read_all(host, free, LOG) != packed:
+            number += 1
+            free = f"{path.removesuffix('.log')}_{number}.log.gz"
+        disk.put(host, free, packed, 0o640)
+    host.remove(path)
     return free
-
-
-def _end(path: str) -> bytes:
-    """The check sum and the length that a compressed file has at its end."""
-    with open(path, "rb") as file:
-        file.seek(max(0, os.fstat(file.fileno()).st_size - 8))
-        return file.read()
-
-
-def _sync_folder(path: str) -> None:
-    """Returns when its names are on the disk."""
-    folder = os.open(path, os.O_RDONLY | os.O_DIRECTORY)
-    try:
-        os.fsync(folder)
-    finally:
-        os.close(folder)
-
-
-def _remove(path: str) -> None:
-    with contextlib.suppress(FileNotFoundError):
-        os.unlink(path)
 
 
 def oldest_kept(there: list[str], today: str, days: int) -> str:
@@ -79,26 +44,32 @@ def oldest_kept(there: list[str], today: str, days: int) -> str:
     return later(min(today, later(newest, 1)), -days)
 
 
-def tidy(folder: str, today: str, days: int, most: int, recent: set[str]) -> int:
+def tidy(host: Host, folder: str, today: str, days: int, most: int, recent: set[str]) -> int:
     """Compresses the logs of a folder but those of `recent` days, which may still be written, and
     removes what is half written, too old, or too much (bytes), the oldest first. How many bytes are
-    left. Raises OSError."""
-    found = [(match[1], one) for one in os.listdir(folder) if (match := DATED.fullmatch(one))]
+    left. Raises OSError, once it has done what it can."""
+    found = sorted((match[1], one) for one in os.listdir(folder) if (match := DATED.fullmatch(one)))
     oldest = oldest_kept([day for day, _ in found], today, days)
-    sizes = {}
-    for day, name in sorted(found):
-        path = os.path.join(folder, name)
-        if (name.endswith(PART) or day < oldest) and day not in recent:
-            _remove(path)
-            continue
-        if name.endswith(".log") and day not in recent:
-            compress(path)
-            path += ".gz"
-        with contextlib.suppress(FileNotFoundError):  # one without a whole line is gone
-            sizes[path] = os.stat(path).st_size
+    sizes, written, refused = dict[str, int](), set[str](), list[OSError]()
+    for day, name in found:
+        path, is_log, is_over = os.path.join(folder, name), name.endswith(".log"), day not in recent
+        try:
+            if is_over and (name.endswith(disk.PART) or day < oldest):
+                disk.remove_any(host, path)
+            elif is_over and is_log:
+                path = compress(host, path)
+            elif is_log:
+                written.add(path)
+        except OSError as error:
+            refused.append(error)
+        with contextlib.suppress(FileNotFoundError):  # it was removed, or had no whole line
+            sizes[path] = os.lstat(path).st_size
     left = sum(sizes.values())
-    for path, size in sizes.items():
-        if left > most and not path.endswith(".log"):
-            _remove(path)
-            left -= size
+    for path in [one for one in sizes if one not in written]:
+        if left > most:
+            with contextlib.suppress(OSError):
+                disk.remove_any(host, path)
+                left -= sizes[path]
+    if refused:
+        raise refused[0]
     return left

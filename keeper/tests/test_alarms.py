@@ -8,6 +8,7 @@ import time
 import unittest
 from unittest import mock
 
+from keeper import config
 from keeper.reporter.alarms import Alarms
 from keeper.reporter.state import Alarm, LinkState, RadioState, RunState, State
 from keeper.supervisor.host import Host
@@ -38,7 +39,7 @@ class Changes(Quiet):
         super().setUp()
         self.state = station()
         self.alarms = Alarms(Host())
-        self.alarms.unheard = 600.0
+        self.alarms.settings = config.Alarms(unheard=600.0)
 
     def at(self, now, leap=None, minute_at=None):
         if leap is not None:
@@ -171,14 +172,14 @@ class Commands(Quiet):
 
     def alarms(self, command, limit=30.0):
         alarms = Alarms(Host(), os.path.join(self.folder, "state.json"))
-        alarms.command, alarms.limit = command, limit
+        alarms.settings = config.Alarms(command, limit=limit)
         self.addCleanup(alarms.commands.close)
         return alarms
 
     def turn_until(self, alarms, over, most=5.0):
         end = time.monotonic() + most
         while not over() and time.monotonic() < end:
-            alarms.commands.turn(time.monotonic())
+            alarms.commands.turn()
             time.sleep(0.01)
         self.assertTrue(over())
 
@@ -212,7 +213,7 @@ class Commands(Quiet):
         alarms = self.alarms("true")
         alarms.raise_alarm(State(), "time-lost", "no link answers", 1.0)
         with mock.patch.object(alarms.commands.host, "spawn", side_effect=OSError(11, "too many")):
-            alarms.commands.turn(1.0)
+            alarms.commands.turn()
         self.assertIn("the alarm's command can't be started: too many", self.said)
 
     def test_a_text_with_a_zero_runs_all_the_same(self):
@@ -242,6 +243,7 @@ class Commands(Quiet):
         while not _gone(self.lines()[0]) and time.monotonic() < end:
             time.sleep(0.02)
         self.assertTrue(_gone(self.lines()[0]), "what the command started goes on")
+        self.assertIn("the alarm's command was killed: it took too long", self.said)
 
     def test_a_queue_that_is_full_drops_the_oldest(self):
         alarms = self.alarms("true")
@@ -258,7 +260,7 @@ class Commands(Quiet):
     def test_the_end(self):
         alarms = self.alarms("sleep 60")
         alarms.raise_alarm(State(), "time-lost", "a", 1.0)
-        alarms.commands.turn(time.monotonic())
+        alarms.commands.turn()
         pid = alarms.commands.child.pid
         alarms.commands.close()
         end = time.monotonic() + 2

@@ -9,6 +9,7 @@ from collections.abc import Callable
 from unittest import mock
 
 from keeper.reporter import tidy
+from keeper.supervisor.host import Host
 
 LOG = "0-dcf.20231113.b0070001.log"
 
@@ -32,7 +33,7 @@ class Tidied(Folder):
 
     def tidy(self, days: int = 3, most: int = 10**9) -> int:
         recent = {self.today}
-        return tidy.tidy(str(self.folder), self.today, days, most, recent)
+        return tidy.tidy(Host(), str(self.folder), self.today, days, most, recent)
 
     def test_logs_of_other_days_are_compressed_and_old_ones_go(self) -> None:
         for day in range(8, 15):
@@ -79,6 +80,17 @@ class Tidied(Folder):
         self.assertEqual([one for one in self.names() if one.endswith(".journal")],
                          ["20231113T000000Z-1.journal", "20231114T000000Z-1.journal"])
 
+    def test_a_file_that_is_refused_keeps_nothing_from_the_others(self) -> None:
+        """A folder in the place of a log, and a disk that is full: what is too old, and too much,
+        goes all the same."""
+        (self.folder / "0-dcf.20231112.b0070001.log").mkdir()
+        self.put("1-msf.20231112.b0070001.log", b"1 1\n" * 500)
+        self.put("1-msf.20231101.b0070001.log", b"1 1\n")
+        with mock.patch("keeper.supervisor.disk.put", side_effect=OSError(28, "No space left")):
+            with self.assertRaises(OSError):
+                self.tidy(most=1000)
+        self.assertEqual(self.names(), ["0-dcf.20231112.b0070001.log"])
+
     def test_a_clock_that_is_set_years_ahead_makes_none_too_old_at_once(self) -> None:
         empty: list[str] = []
         for there, today, due in (
@@ -102,11 +114,11 @@ class Compressed(Folder):
                 real(what, *more)
             return call
 
-        for name in ("fsync", "rename", "unlink"):
+        for name in ("fsync", "replace", "unlink"):
             self.enterContext(mock.patch(f"os.{name}", noted(name, getattr(os, name))))
-        tidy.compress(path)
+        tidy.compress(Host(), path)
         self.assertEqual([one for one in calls if one != ("unlink", part)],
-                         [("fsync", part), ("rename", part), ("fsync", str(self.folder)),
+                         [("fsync", part), ("replace", part), ("fsync", str(self.folder)),
                           ("unlink", path)])
 
     def test_what_a_power_cut_left_at_its_end_is_cut_off(self) -> None:
@@ -115,7 +127,7 @@ class Compressed(Folder):
         for left in (bytes(185), b"33" + bytes(99), b"33 3", b"", bytes(9) + b"\n5 5\n"):
             with self.subTest(left=left):
                 path = self.put(LOG, whole + left)
-                tidy.compress(path)
+                tidy.compress(Host(), path)
                 packed = pathlib.Path(path + ".gz")
                 self.assertEqual(gzip.decompress(packed.read_bytes()), whole)
                 packed.unlink()
@@ -124,17 +136,17 @@ class Compressed(Folder):
         victim = pathlib.Path(self.put("victim", b"root:secret:1\nhalf"))
         victim.chmod(0o600)
         os.symlink(victim, self.folder / (LOG + ".gz.part"))
-        tidy.compress(self.put(LOG, b"1 1\n"))
+        tidy.compress(Host(), self.put(LOG, b"1 1\n"))
         self.assertEqual((victim.read_bytes(), victim.stat().st_mode & 0o777),
                          (b"root:secret:1\nhalf", 0o600))
         os.link(victim, self.folder / (LOG + ".gz.part"))
         with mock.patch("os.unlink", side_effect=FileNotFoundError):
             with self.assertRaises(FileExistsError):
-                tidy.compress(self.put(LOG, b"1 1\n"))
+                tidy.compress(Host(), self.put(LOG, b"1 1\n"))
         (self.folder / LOG).unlink()
         os.symlink(victim, self.folder / LOG)
         with self.assertRaises(OSError):
-            tidy.compress(str(self.folder / LOG))
+            tidy.compress(Host(), str(self.folder / LOG))
         self.assertEqual(victim.read_bytes(), b"root:secret:1\nhalf")
 
 
