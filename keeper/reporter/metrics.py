@@ -2,78 +2,70 @@
 units, one HELP and TYPE for each name. docs/KEEPER.md has the same families."""
 
 import math
+import operator
 from collections.abc import Callable, Iterator, Sequence
 from typing import Any
 
 from keeper.reporter.health import is_kept, judge, worst
 from keeper.reporter.state import SILENT, State
 
-PREFIX = "radio_ntpd_"
+PREFIX, MOMENT = "radio_ntpd_", "_timestamp_seconds"
 ESCAPES = str.maketrans({"\\": "\\\\", '"': '\\"', "\n": "\\n"})
 Label = tuple[str, str]  # its name and its value
 # A family: its name without the prefix, what it says, and its value of a state, link, radio or
-# server at a moment (Unix s); None is left out, and a dict has values by one more label. The moment
-# is infinite where no keeper runs. A name that ends with `_total` is a counter's.
-Family = tuple[str, str, Callable[[Any, float], Any]]
+# server: a field, or a field where another one isn't 0, or a function of it and a moment (Unix s;
+# infinite where no keeper runs). None is left out, as is a moment of 0, and a dict has values by
+# one more label. A name that ends with `_total` is a counter's.
+Family = tuple[str, str, str | Callable[[Any, float], Any]]
 STATION: Sequence[Family] = (
     ("status", "0 well, 1 warning, 2 critical", lambda one, now: worst(judge(one, now))),
-    ("state_timestamp_seconds", "when this was written", lambda one, now: one.written),
-    ("keeper_start_time_seconds", "when the keeper began", lambda one, now: one.keeper_since),
-    ("bound_seconds", "root dispersion above which no time is given", lambda one, now: one.bound),
-    ("runs_total", "runs since the keeper began", lambda one, now: one.run.number),
-    ("run_start_time_seconds", "when the run that serves began", lambda one, now: one.run.since),
+    ("state_timestamp_seconds", "when this was written", "written"),
+    ("keeper_start_time_seconds", "when the keeper began", "keeper_since"),
+    ("bound_seconds", "root dispersion above which no time is given", "bound"),
+    ("runs_total", "runs since the keeper began", "run.number"),
+    ("run_start_time_seconds", "when the run that serves began", "run.since"),
     ("leap_file_expiry_timestamp_seconds", "when the list of leap seconds expires",
-     lambda one, now: one.leap_file and one.leap_file.expires or None),
+     lambda one, now: one.leap_file and one.leap_file.expires),
 )
 LINKS: Sequence[Family] = (
     ("link_up", "whether it answers", lambda one, now: now - one.answered_at <= SILENT),
     ("link_synchronized", "whether it has the time", lambda one, now: one.has_time(now)),
-    ("link_leap_indicator", "3 says not synchronised", lambda one, now: one.leap),
-    ("link_stratum", "0 without time", lambda one, now: one.stratum),
-    ("link_root_dispersion_seconds", "of its last answer", lambda one, now: one.root_dispersion),
-    ("link_root_delay_seconds", "of its last answer", lambda one, now: one.root_delay),
-    ("link_offset_seconds", "its time less the host's clock",
-     lambda one, now: one.offset if one.until else None),
-    ("link_last_answer_timestamp_seconds", "its last answer to the keeper",
-     lambda one, now: one.answered_at or None),
-    ("link_reference_timestamp_seconds", "when its source was received last",
-     lambda one, now: one.reference_time or None),
-    ("link_time_end_timestamp_seconds", "when its time ends without a source",
-     lambda one, now: one.until or None),
-    ("link_requests_total", "clients' datagrams in runs that ended", lambda one, now: one.requests),
+    ("link_leap_indicator", "3 says not synchronised", "leap"),
+    ("link_stratum", "0 without time", "stratum"),
+    ("link_root_dispersion_seconds", "of its last answer", "root_dispersion"),
+    ("link_root_delay_seconds", "of its last answer", "root_delay"),
+    ("link_offset_seconds", "its time less the host's clock", "offset if until"),
+    ("link_last_answer_timestamp_seconds", "its last answer to the keeper", "answered_at"),
+    ("link_reference_timestamp_seconds", "when its source was received last", "reference_time"),
+    ("link_time_end_timestamp_seconds", "when its time ends without a source", "until"),
+    ("link_requests_total", "clients' datagrams in runs that ended", "requests"),
 )
 RADIOS: Sequence[Family] = (
     ("radio_source_running", "whether its source gives pulses",
      lambda one, now: one.source == "running" and now < math.inf),
-    ("radio_source_restarts_total", "starts of its source again", lambda one, now: one.restarts),
-    ("radio_pulses_total", "pulses taken", lambda one, now: one.pulses),
-    ("radio_bad_lines_total", "lines left out", lambda one, now: one.bad_lines),
-    ("radio_last_pulse_timestamp_seconds", "the last pulse", lambda one, now: one.pulse_at or None),
-    ("radio_pulse_rate", "pulses a second in the last minute", lambda one, now: one.rate),
-    ("radio_pulse_width_seconds", "their median width", lambda one, now: one.width or None),
-    ("radio_last_verdict_timestamp_seconds", "the last verdict",
-     lambda one, now: one.minute_at or None),
-    ("radio_offset_seconds", "that verdict less the host's clock",
-     lambda one, now: one.offset if one.minute_at else None),
-    ("radio_hour_verdicts", "verdicts of the last hour", lambda one, now: one.verdicts_hour),
-    ("radio_hour_frames", "minutes of the last hour", lambda one, now: one.minutes_hour),
+    ("radio_source_restarts_total", "starts of its source again", "restarts"),
+    ("radio_pulses_total", "pulses taken", "pulses"),
+    ("radio_bad_lines_total", "lines left out", "bad_lines"),
+    ("radio_last_pulse_timestamp_seconds", "the last pulse", "pulse_at"),
+    ("radio_pulse_rate", "pulses a second in the last minute", "rate"),
+    ("radio_pulse_width_seconds", "their median width", "width if width"),
+    ("radio_last_verdict_timestamp_seconds", "the last verdict", "minute_at"),
+    ("radio_offset_seconds", "that verdict less the host's clock", "offset if minute_at"),
+    ("radio_hour_verdicts", "verdicts of the last hour", "verdicts_hour"),
+    ("radio_hour_frames", "minutes of the last hour", "minutes_hour"),
     ("radio_recent_frames", "minutes of the last ten, by kind",
      lambda one, now: {("kind", kind): count for kind, count in one.recent.items()}),
     ("radio_day_refused_frames", "refused minutes of 24 hours, by rule",
      lambda one, now: {("rule", rule): count for rule, count in one.refused().items()}),
-    ("radio_mark_spread_seconds", "standard deviation of marks' starts",
-     lambda one, now: one.spread or None),
+    ("radio_mark_spread_seconds", "standard deviation of marks' starts", "spread if spread"),
     ("radio_steadied_mark_spread_seconds", "the same, steadied",
      lambda one, now: one.steady and one.spread_given or None),
 )
 SERVERS: Sequence[Family] = (
-    ("server_journal_samples", "samples in the last journal", lambda one, now: one.samples),
-    ("server_last_sample_timestamp_seconds", "the last sample",
-     lambda one, now: one.sample_at or None),
-    ("server_offset_seconds", "its time less the host's clock",
-     lambda one, now: one.offset if one.sample_at else None),
-    ("server_delay_seconds", "there and back",
-     lambda one, now: one.delay if one.sample_at else None),
+    ("server_journal_samples", "samples in the last journal", "samples"),
+    ("server_last_sample_timestamp_seconds", "the last sample", "sample_at"),
+    ("server_offset_seconds", "its time less the host's clock", "offset if sample_at"),
+    ("server_delay_seconds", "there and back", "delay if sample_at"),
 )
 FAMILIES = (*STATION, *LINKS, *RADIOS, *SERVERS)
 
@@ -96,21 +88,27 @@ def _block(families: Sequence[Family], parts: Sequence[tuple[list[Label], Any]],
     for short, about, value in families:
         name, samples = PREFIX + short, []
         for labels, part in parts:
-            said = value(part, now)
+            said = _field(part, value) if isinstance(value, str) else value(part, now)
             if isinstance(said, dict):
                 samples += [f"{name}{_labels([*labels, label])} {_number(one)}"
                             for label, one in said.items()]
-            elif said is not None:
+            elif said or (said is not None and not short.endswith(MOMENT)):
                 samples.append(f"{name}{_labels(labels)} {_number(said)}")
         if samples:
             kind = "counter" if name.endswith("_total") else "gauge"
             yield from (f"# HELP {name} {about}", f"# TYPE {name} {kind}", *samples)
 
 
+def _field(part: Any, value: str) -> Any:
+    name, _, other = value.partition(" if ")
+    return operator.attrgetter(name)(part) if not other or getattr(part, other) else None
+
+
 def _labels(labels: list[Label]) -> str:
-    """Labels in braces; a backslash, a quote and a line feed are escaped."""
+    """Labels in braces; a backslash, a quote and a line feed are escaped, and what is no character
+    of UTF-8 is a question mark."""
     said = [f'{name}="{value.translate(ESCAPES)}"' for name, value in labels]
-    return "{" + ",".join(said) + "}" if said else ""
+    return ("{" + ",".join(said) + "}" if said else "").encode(errors="replace").decode()
 
 
 def _number(value: float) -> str:

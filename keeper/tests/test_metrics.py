@@ -97,6 +97,8 @@ class Metrics(unittest.TestCase):
         state = a_good_station()
         state.radios[0].plan = 'a"b\\c\nd'
         self.assertIn('plan="a\\"b\\\\c\\nd"', metrics.render(state, NOW))
+        state.radios[0].reception[-1].refused = {"\ud800": 1}  # as a state.json may have it
+        self.assertIn('rule="?"', metrics.render(state, NOW))
 
     def test_great_and_small_numbers(self) -> None:
         state = a_good_station()
