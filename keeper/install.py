@@ -18,8 +18,22 @@ Step = tuple[str, Callable[[], object]]  # what is done, and what does it
 USER = "radio_ntpd"
 HOME = "/var/lib/radio_ntpd"
 SETTINGS = "/etc/radio_ntpd"
-PAGES = ("radio_keeper.1", "radio_ntpd.toml.5", "radio_ntpd.8")
 UNITS = ("radio_ntpd.socket", "radio_ntpd.service")
+USERS, MODES = f"{{system}}/sysusers.d/{USER}.conf", f"{{system}}/tmpfiles.d/{USER}.conf"
+# Where each file of the sources goes, and what a link leads to: `system` is where the host looks
+# for units, and `below` the prefix.
+FILES = {
+    **{f"{{system}}/systemd/system/{name}": f"packaging/{name}" for name in UNITS},
+    USERS: "packaging/radio_ntpd.sysusers",
+    MODES: "packaging/radio_ntpd.tmpfiles",
+    "{below}/share/man/man1/radio_keeper.1": "docs/radio_keeper.1",
+    "{below}/share/man/man5/radio_ntpd.toml.5": "docs/radio_ntpd.toml.5",
+    "{below}/share/man/man8/radio_ntpd.8": "docs/radio_ntpd.8",
+}
+LINKS = {
+    "{below}/sbin/radio_ntpd": "../lib/radio_ntpd/bin/radio_ntpd",
+    "{below}/bin/radio_keeper": "../lib/radio_ntpd/radio_keeper",
+}
 # Of tools/ those for users. A picture of a day works pages out by the model that the checks have.
 TOOLS = ("entry_times.py", "journal_text.py", "plot_journal.py", "plots.py", "refused_output.py",
          "summary.sh", "svg_chart.py")
@@ -30,25 +44,18 @@ AGE = TOP / "build/built_program.py"  # says whether a checkout's program is of 
 
 
 class Places:
-    """Where each part goes: `files` with their sources, `links` with what they lead to, and the
-    examples for the operator."""
+    """Where each part goes, below a root and a prefix."""
 
     def __init__(self, root: str, prefix: str) -> None:
         self.prefix = prefix.rstrip("/")
-        below = root + self.prefix
-        system = f"{below}/lib" if self.prefix == "/usr" else f"{root}/etc"
-        self.library = f"{below}/lib/radio_ntpd"
-        self.links = {f"{below}/sbin/radio_ntpd": "../lib/radio_ntpd/bin/radio_ntpd",
-                      f"{below}/bin/radio_keeper": "../lib/radio_ntpd/radio_keeper"}
-        self.units = {f"{system}/systemd/system/{name}": f"packaging/{name}" for name in UNITS}
-        self.users = f"{system}/sysusers.d/{USER}.conf"
-        self.modes = f"{system}/tmpfiles.d/{USER}.conf"
-        pages = {f"{below}/share/man/man{name[-1]}/{name}": f"docs/{name}" for name in PAGES}
-        self.files = {**self.units, self.users: "packaging/radio_ntpd.sysusers",
-                      self.modes: "packaging/radio_ntpd.tmpfiles", **pages}
+        self.below = root + self.prefix
+        self.system = f"{self.below}/lib" if self.prefix == "/usr" else f"{root}/etc"
+        self.library = f"{self.below}/lib/radio_ntpd"
         self.settings = root + SETTINGS
-        self.examples = {f"{self.settings}/{name}": f"packaging/{name}"
-                         for name in ("keeper.toml", "station.toml")}
+
+    def at(self, place: str) -> str:
+        """The name of a place of FILES or LINKS."""
+        return place.format(below=self.below, system=self.system)
 
     def adapted(self, source: str) -> bytes:
         """A file of the sources with the prefix put in. Raises OSError."""
@@ -78,15 +85,16 @@ def file_steps(places: Places, program: str) -> Iterator[Step]:
     if not has_tree(places.library, tree):
         what = f"put {len(tree)} files into {places.library}"
         yield what, partial(put_folder, places.library, tree)
-    files = {path: (target.encode(), LINK) for path, target in places.links.items()}
-    files |= {path: (places.adapted(source), 0o644) for path, source in places.files.items()}
+    files = {places.at(link): (target.encode(), LINK) for link, target in LINKS.items()}
+    files |= {places.at(at): (places.adapted(source), 0o644) for at, source in FILES.items()}
     for path, (text, mode) in files.items():
         if file_at(path) != (text, mode):
             yield f"write {path}", partial(put_file, path, text, mode)
-    for path, source in places.examples.items():
+    for name in ("keeper.toml", "station.toml"):
+        path = f"{places.settings}/{name}"
         if not os.path.lexists(path):
             what = f"write an example {path}, to be changed by you"
-            yield what, partial(put_file, path, places.adapted(source), 0o640)
+            yield what, partial(put_file, path, places.adapted(f"packaging/{name}"), 0o640)
 
 
 def command(*words: str) -> None:
@@ -102,12 +110,12 @@ def command(*words: str) -> None:
 
 def host_steps(places: Places, is_new: bool) -> Iterator[Step]:
     """The user and its groups, and what systemd has to know. `is_new`: a file is written."""
-    yield f"make the system user {USER}", partial(command, "systemd-sysusers", places.users)
+    yield f"make the system user {USER}", partial(command, "systemd-sysusers", places.at(USERS))
     if any(group.gr_name == "gpio" for group in grp.getgrall()):
         what = f"put {USER} into the group gpio, whose devices it then may read"
         yield what, partial(command, "usermod", "-aG", "gpio", USER)
     what = f"let the group {USER} read {places.settings}, which may have what isn't for everybody"
-    yield what, partial(command, "systemd-tmpfiles", "--create", places.modes)
+    yield what, partial(command, "systemd-tmpfiles", "--create", places.at(MODES))
     yield from systemd_step("have systemd read its units anew", "daemon-reload")
     if is_new:
         yield from systemd_step("start the service again, if it runs", "try-restart", USER)
@@ -121,11 +129,11 @@ def systemd_step(what: str, *words: str) -> Iterator[Step]:
 
 def removing(places: Places, here: bool) -> Iterator[Step]:
     """All of it again, but for what is the operator's: settings, journals, logs, their user."""
-    if here and any(map(os.path.exists, places.units)):
+    there = [path for path in map(places.at, (*FILES, *LINKS)) if os.path.lexists(path)]
+    if here and there:
         yield from systemd_step("stop the service", "disable", "--now", *UNITS)
-    for path in (*places.files, *places.links):
-        if os.path.lexists(path):
-            yield f"remove {path}", partial(os.unlink, path)
+    for path in there:
+        yield f"remove {path}", partial(os.unlink, path)
     if os.path.lexists(places.library):
         yield f"remove {places.library}", partial(shutil.rmtree, places.library)
     if here:
@@ -147,35 +155,27 @@ def named_program(named: str | None) -> str:
     return program
 
 
-def next_words(places: Places, done: bool) -> str:
-    if not done:
-        return "nothing was done; --do does it"
-    return (f"next: set {places.settings}/keeper.toml and station.toml, then `radio_keeper check`,"
-            " then `systemctl enable --now radio_ntpd`, then `radio_keeper status`")
-
-
 def main(asked: argparse.Namespace) -> int:
     """The exit status."""
     if not asked.prefix.startswith("/"):
         raise Fault("--prefix is no whole path")
-    root = os.path.abspath(asked.root).rstrip("/")
     here = os.path.realpath(asked.root) == "/"
     if asked.do and here and os.geteuid() != 0:
         raise Fault("only root can do that; without --do it says what it would do")
-    places = Places(root, asked.prefix)
+    places = Places(os.path.abspath(asked.root).rstrip("/"), asked.prefix)
     if asked.remove:
         steps = list(removing(places, here))
     else:
         steps = list(file_steps(places, named_program(asked.program)))
         steps += host_steps(places, bool(steps)) if here else []
-    before = os.umask(0o022)  # the service's user has to enter each folder that is made
-    try:
-        for text, act in steps:
-            print(f"{'' if asked.do else 'would '}{text}", flush=True)
-            if asked.do:
-                act()
-    finally:
-        os.umask(before)
-    if not asked.remove:
-        print(next_words(places, asked.do))
+    os.umask(0o022)  # the service's user has to enter each folder that is made
+    for text, act in steps:
+        print(f"{'' if asked.do else 'would '}{text}", flush=True)
+        if asked.do:
+            act()
+    if not asked.do and not asked.remove:
+        print("nothing was done; --do does it")
+    elif not asked.remove:
+        print(f"next: set {places.settings}/keeper.toml and station.toml, then `radio_keeper "
+              "check`, then `systemctl enable --now radio_ntpd`, then `radio_keeper status`")
     return DONE

@@ -56,6 +56,7 @@ class Install(unittest.TestCase):
             "usr/local/share/man/man1/radio_keeper.1", "usr/local/share/man/man5/radio_ntpd.toml.5",
         ):
             self.assertIn(due, there)
+        self.assertTrue(self.install("--do")[-1].endswith("then `systemctl enable --now radio_ntpd`, then `radio_keeper status`"))
         self.assertFalse([one for one in there if "test" in os.path.basename(one) or "__pycache__" in one or one.endswith(".part")])
         self.assertEqual(self.install("--do")[:-1], [], "the second time there is nothing to do")
 
@@ -439,9 +440,6 @@ class Sentences(unittest.TestCase):
         said = "there is no built program /nosuch: build it, or name it with --program"
         with self.assertRaisesRegex(Fault, said):
             install.main(parse(["install", "--program", "/nosuch"]))
-        words = install.next_words(install.Places("/", "/usr"), True)
-        self.assertTrue(words.endswith(
-            "then `systemctl enable --now radio_ntpd`, then `radio_keeper status`"))
 
 
 if __name__ == "__main__":

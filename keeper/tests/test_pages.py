@@ -118,9 +118,9 @@ class Names(unittest.TestCase):
                     told = rf"Fl Fl {option[2:]}\b"
                     self.assertRegex(synopsis[1], told, f"{command} {option}")
 
-    def test_installed_pages_are_there(self) -> None:
-        for name in install.PAGES:
-            self.assertTrue((DOCS / name).exists())
+    def test_installed_files_are_there(self) -> None:
+        for source in install.FILES.values():
+            self.assertTrue((install.TOP / source).exists())
 
 
 if __name__ == "__main__":
