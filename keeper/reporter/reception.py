@@ -4,6 +4,7 @@ comes out."""
 import collections
 import statistics
 import time
+from collections.abc import Sequence
 
 from keeper.ntp import EPOCH
 from keeper.receiver import Level, judge, marks_of
@@ -19,36 +20,22 @@ HOUR = 3600
 KINDS = ("verdict", "lone", "differs", "refused")
 
 
-class Spread:
-    """How far starts lie off a straight line of whole seconds."""
-
-    def __init__(self) -> None:
-        self.starts: collections.deque[int] = collections.deque()
-
-    def add(self, start: int) -> None:
-        """A pulse began (us of the counter). One before the last one begins a new counter."""
-        if self.starts and start <= self.starts[-1]:
-            self.starts.clear()
-        self.starts.append(start)
-        while self.starts[0] < start - WINDOW:
-            self.starts.popleft()
-
-    def value(self) -> float:
-        """The standard deviation (s), 0.0 where there are too few marks."""
-        if len(self.starts) < LEAST:
-            return 0.0
-        first = self.starts[0]
-        phases = [_wrapped(start - first) for start in self.starts]
-        # The phase of the first mark may be wild, so that of most is found before what is near it.
-        some, few = phases[::max(1, len(phases) // 60)], phases[::max(1, len(phases) // 20)]
-        middle = max(few, key=lambda one: sum(abs(_wrapped(other - one)) < WILD // 4
-                                              for other in some))
-        near = [(start - first, off) for start, phase in zip(self.starts, phases)
-                if abs(off := _wrapped(phase - middle)) < WILD]
-        if len(near) < LEAST or near[0][0] == near[-1][0]:
-            return 0.0
-        slope, base = statistics.linear_regression(*zip(*near))
-        return statistics.pstdev([off - base - slope * at for at, off in near]) / 1e6
+def spread_of(starts: Sequence[int]) -> float:
+    """How far starts lie off a straight line of whole seconds: the standard deviation (s), 0.0
+    where there are too few marks."""
+    if len(starts) < LEAST:
+        return 0.0
+    phases = [_wrapped(start - starts[0]) for start in starts]
+    # The phase of the first mark may be wild, so that of most is found before what is near it.
+    some, few = phases[::max(1, len(phases) // 60)], phases[::max(1, len(phases) // 20)]
+    middle = max(few, key=lambda one: sum(abs(_wrapped(other - one)) < WILD // 4
+                                          for other in some))
+    near = [(start - starts[0], off) for start, phase in zip(starts, phases)
+            if abs(off := _wrapped(phase - middle)) < WILD]
+    if len(near) < LEAST or near[0][0] == near[-1][0]:
+        return 0.0
+    slope, base = statistics.linear_regression(*zip(*near))
+    return statistics.pstdev([off - base - slope * at for at, off in near]) / 1e6
 
 
 def _wrapped(phase: int) -> int:
@@ -56,23 +43,21 @@ def _wrapped(phase: int) -> int:
 
 
 class Reception:
-    """Keeps one radio's state."""
+    """Keeps one radio's state. `minutes` are those of the last hour, with their kinds; `pulses`
+    those of the last five minutes: start, width, start as it is handed on (us of the counter)."""
 
     def __init__(self, radio: RadioState) -> None:
         self.radio = radio
         self.minutes: collections.deque[tuple[float, str]] = collections.deque()
-        self.pulses: collections.deque[tuple[int, int]] = collections.deque()
-        self.spread, self.spread_given = Spread(), Spread()
+        self.pulses: collections.deque[tuple[int, int, int]] = collections.deque()
 
     def pulse(self, start: int, width: int, given: int) -> None:
-        """A pulse: its start, its width, and its start as it is handed on (us of the counter)."""
+        """A pulse. One that begins before the last one begins a new counter."""
         if self.pulses and start <= self.pulses[-1][0]:
             self.pulses.clear()
-        self.pulses.append((start, width))
-        while self.pulses[0][0] <= start - LOOKED_AT * SECOND:
+        self.pulses.append((start, width, given))
+        while self.pulses[0][0] < start - WINDOW:
             self.pulses.popleft()
-        self.spread.add(start)
-        self.spread_given.add(given)
 
     def take(self, line: str, now: float, unix: float | None = None) -> None:
         """A line of `decode`, which came now (Unix s). `unix` is what is to be added to the
@@ -126,7 +111,8 @@ class Reception:
         radio.minutes_hour, radio.verdicts_hour = len(kinds), kinds.count("verdict")
         recent = [kind for at, kind in self.minutes if now - RECENT < at <= now]
         radio.recent = dict(collections.Counter(recent).most_common())
-        radio.spread, radio.spread_given = self.spread.value(), self.spread_given.value()
+        radio.spread = spread_of([start for start, _, _ in self.pulses])
+        radio.spread_given = spread_of([given for _, _, given in self.pulses])
         self._look(now)
         oldest = now - QUARTER * QUARTERS
         # What is ahead of now was written before the host's clock was put back.
@@ -134,12 +120,14 @@ class Reception:
 
     def _look(self, now: float) -> None:
         """What the marks of the last minute look like."""
-        radio, marks = self.radio, list(self.pulses)
+        radio = self.radio
+        marks = [(float(start), float(width)) for start, width, _ in self.pulses
+                 if start > self.pulses[-1][0] - LOOKED_AT * SECOND]
         radio.rate, radio.width, radio.fault = 0.0, 0.0, ""
         if not marks or now - radio.pulse_at > LOOKED_AT:
             return
         seconds = min(LOOKED_AT, (marks[-1][0] - marks[0][0]) / SECOND + 1)
-        seen = marks_of([(float(start), float(width)) for start, width in marks], seconds)
+        seen = marks_of(marks, seconds)
         radio.rate = round(seen.rate, 2)
         radio.width = round(statistics.median(seen.widths) / 1e6, 6)
         level, said = judge(seen, radio.plan)

@@ -3,7 +3,7 @@
 import random
 import unittest
 
-from keeper.reporter.reception import Reception, Spread
+from keeper.reporter.reception import Reception, spread_of
 from keeper.reporter.state import Quarter, RadioState
 from keeper.tests.test_receiver import Pairs, log, upside_down
 
@@ -156,39 +156,30 @@ class Marks(unittest.TestCase):
 
 
 class Spreads(unittest.TestCase):
-    def spread(self, starts: list[int]) -> float:
-        return filled(starts).value()
-
     def test_marks_without_jitter_on_a_counter_that_is_off(self) -> None:
-        self.assertEqual(self.spread([7_123_456 + 1_000_050 * one for one in range(200)]), 0.0)
+        self.assertEqual(spread_of([7_123_456 + 1_000_050 * one for one in range(200)]), 0.0)
 
     def test_the_jitter_is_shown(self) -> None:
         chance = random.Random(5)
         for sigma in (500, 2_000, 15_000):
             starts = [5_990_000 + 1_000_000 * one + round(chance.gauss(0, sigma))
                       for one in range(300) if one % 60 != 59]
-            self.assertAlmostEqual(self.spread(starts), sigma / 1e6, delta=sigma / 1e6 / 8)
+            self.assertAlmostEqual(spread_of(starts), sigma / 1e6, delta=sigma / 1e6 / 8)
 
     def test_second_parts_and_lost_carriers_are_left_out(self) -> None:
         starts = [9_000_000 + 1_000_000 * one for one in range(200)]
         starts += [one + 200_000 for one in starts[::3]] + [one + 490_000 for one in starts[::11]]
-        self.assertEqual(self.spread(sorted(starts)), 0.0)
+        self.assertEqual(spread_of(sorted(starts)), 0.0)
 
     def test_few_marks_or_old_ones_show_nothing(self) -> None:
-        self.assertEqual(self.spread([one * 1_000_000 for one in range(29)]), 0.0)
-        self.assertEqual(len(filled([one * 1_000_000 for one in range(600)]).starts), 301)
+        self.assertEqual(spread_of([one * 1_000_000 for one in range(29)]), 0.0)
 
     def test_a_new_counter_begins_anew(self) -> None:
-        spread = filled([one * 1_000_000 for one in range(60)])
-        spread.add(5)
-        self.assertEqual(list(spread.starts), [5])
-
-
-def filled(starts: list[int]) -> Spread:
-    spread = Spread()
-    for start in starts:
-        spread.add(start)
-    return spread
+        reception = Reception(RadioState())
+        for start in [*range(0, 600_000_000, 1_000_000), 5]:
+            self.assertLessEqual(len(reception.pulses), 301)
+            reception.pulse(start, 100_000, start)
+        self.assertEqual(list(reception.pulses), [(5, 100_000, 5)])
 
 
 if __name__ == "__main__":
