@@ -38,7 +38,16 @@ def main(asked: argparse.Namespace) -> int:
 
 
 def told(path: str) -> tuple[int, int, str]:
-    """The keeper's process, how often it has reloaded, and why the last time was refused."""
+    """The keeper's process, how often it has reloaded, and why the last time was refused. What the
+    file says is believed of a process of its owner alone. Raises Fault and OSError."""
     with open(path, encoding="utf-8") as file:
-        facts = json.load(file)
-    return facts["pid"], facts["reloads"], facts["refused"]
+        owner = os.fstat(file.fileno()).st_uid
+        try:
+            facts = json.load(file)
+            pid, reloads, refused = int(facts["pid"]), int(facts["reloads"]), str(facts["refused"])
+            is_its = os.stat(f"/proc/{pid:d}").st_uid == owner
+        except (LookupError, OSError, RecursionError, TypeError, ValueError) as error:
+            raise Fault(f"{path} isn't of a keeper that runs: {error!r}") from error
+    if not is_its:
+        raise Fault(f"{path} names process {pid}, which is another user's")
+    return pid, reloads, refused

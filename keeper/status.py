@@ -14,7 +14,8 @@ from keeper.errors import DONE, UNKNOWN, Fault
 from keeper.reporter import metrics, overview
 from keeper.reporter.__main__ import STATE
 from keeper.reporter.health import GONE, Level, judge, summary, worst
-from keeper.reporter.state import State, StateError, load
+from keeper.reporter.state import State, load
+from keeper.reporter.state import read as read_state
 from keeper.reporter.station_state import Station
 from keeper.supervisor.reports import FACTS
 
@@ -33,9 +34,9 @@ def main(asked: argparse.Namespace) -> int:
         return watch(folders, asked.every)
     try:
         written, now = last(folders), time.time()
-    except StateError as error:
+    except Fault as fault:
         said = "does the keeper run, and are --config and --folder right?"
-        raise Fault(f"{error}; {said}") from error
+        raise Fault(f"{fault}; {said}") from fault
     state = current(written)
     if asked.json:
         print(json.dumps(written, default=vars, indent=1))
@@ -61,24 +62,28 @@ def folders_of(config: str | None) -> list[str]:
 
 def last(folders: list[str]) -> State:
     """The state of the first folder that has one. Where the reporter stands still, what the
-    supervisor itself wrote last is put in. Raises StateError."""
+    supervisor itself wrote last is put in. Raises Fault."""
     folder = next((one for one in folders if os.path.exists(os.path.join(one, STATE))), folders[0])
     path, facts = os.path.join(folder, FACTS), {}
-    with contextlib.suppress(OSError, ValueError), open(path, encoding="utf-8") as file:
-        facts = json.load(file)
+    with contextlib.suppress(OSError, RecursionError, ValueError):
+        with open(path, encoding="utf-8") as file:
+            facts = json.load(file)
     try:
         state = load(os.path.join(folder, STATE))
-    except StateError:
+    except Fault:
         if not facts:
             raise
         state = State()
-    late = facts["at"] - state.written if facts else 0.0
-    if late > STANDS:
-        station = Station(state)
+    try:
+        if not facts or facts["at"] - state.written <= STANDS:
+            return state
+        station, late = Station(state), span(facts["at"] - state.written)
         station.take(facts)
-        station.state.notes.append(f"the reporter has drawn nothing for {span(late)}")
-        state, state.written = station.state, facts["at"]
-    return state
+        station.state.notes.append(f"the reporter has drawn nothing for {late}")
+        station.state.written = facts["at"]
+        return read_state(json.dumps(station.state, default=vars))
+    except (ArithmeticError, AttributeError, LookupError, TypeError, ValueError) as error:
+        raise Fault(f"{path} isn't of a keeper: {error!r}") from error
 
 
 def is_there(process: int) -> bool:
@@ -107,7 +112,7 @@ def nagios(folder: str | None, config: str | None) -> int:
                    for one in state.links]
         figures += [f"verdicts_{one.number}={one.verdicts_hour};;;0;60" for one in state.radios]
         said += f" | {' '.join(figures)}" if figures else ""
-    except (StateError, Fault) as error:
+    except Fault as error:
         level, said = Level(UNKNOWN), str(error).replace("|", "/")
     print(f"RADIO_NTPD {level.name}: {said}")
     return int(level)
@@ -124,8 +129,8 @@ def watch(folders: list[str], every: float) -> int:
     while True:
         try:
             said = overview.render(current(last(folders)), time.time(), takes_blocks())
-        except StateError as error:
-            said = f"{error}\n"
+        except Fault as fault:
+            said = f"{fault}\n"
         sys.stdout.write(clear + said)
         sys.stdout.flush()
         time.sleep(every)

@@ -17,9 +17,10 @@ import time
 from collections.abc import Callable
 
 from keeper import config
+from keeper.errors import Fault
 from keeper.reporter import metrics, page
 from keeper.reporter.alarms import Alarms
-from keeper.reporter.state import State, StateError, load, put, save
+from keeper.reporter.state import State, load, put, save
 from keeper.reporter.station_state import Facts, Station
 from keeper.reporter.tidy import tidy
 from keeper.supervisor.clocks import Clocks
@@ -39,7 +40,7 @@ def last_state(*paths: str) -> State | None:
     """The newest state of these files that can be read."""
     found: list[State] = []
     for path in paths:
-        with contextlib.suppress(StateError):
+        with contextlib.suppress(Fault):
             found.append(load(path))
     return max(found, key=lambda one: one.written) if found else None
 

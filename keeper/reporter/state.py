@@ -16,6 +16,7 @@ import typing
 from dataclasses import dataclass
 from typing import Any
 
+from keeper.errors import Fault
 from keeper.supervisor import disk
 from keeper.supervisor.host import Host
 
@@ -26,10 +27,6 @@ QUARTER = 900  # a quarter of an hour (s)
 QUARTERS = 96  # as many as are kept: 24 hours
 DRIFT = 15e-6  # how fast the root dispersion grows while no source is received (s a second)
 SILENT = 15.0  # a link that hasn't answered for so long is silent (s)
-
-
-class StateError(Exception):
-    """The state can't be had: the text says which file and why, in one sentence."""
 
 
 def has(default: Any, about: str) -> Any:
@@ -222,14 +219,14 @@ def read(text: str) -> State:
 
 
 def load(path: str) -> State:
-    """The state of a file. Raises StateError."""
+    """The state of a file. Raises Fault."""
     try:
         with open(path, encoding="utf-8") as file:
             return read(file.read())
     except OSError as error:
-        raise StateError(f"the state {path} can't be read: {error.strerror}") from error
+        raise Fault(f"the state {path} can't be read: {error.strerror}") from error
     except (ValueError, RecursionError) as error:
-        raise StateError(f"{path} is no state of a keeper: {error}") from error
+        raise Fault(f"{path} is no state of a keeper: {error}") from error
 
 
 def put(host: Host, path: str, text: str) -> None:

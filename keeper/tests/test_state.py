@@ -9,10 +9,11 @@ import time
 import unittest
 from unittest import mock
 
+from keeper.errors import Fault
 from keeper.reporter import metrics, overview, page
 from keeper.reporter.health import judge
 from keeper.reporter.state import (LeapFileState, LinkState, Quarter, RadioState, RunState, State,
-                                   StateError, load, put, read, save)
+                                   load, put, read, save)
 from keeper.supervisor.host import Host
 from keeper.tests.made_station import NOW, made_station
 
@@ -77,12 +78,12 @@ class Files(unittest.TestCase):
             with self.subTest(text=text[:60]), open(self.path, "w", encoding="utf-8") as file:
                 file.write(text)
                 file.flush()
-                with self.assertRaisesRegex(StateError, said):
+                with self.assertRaisesRegex(Fault, said):
                     load(self.path)
 
     def test_a_file_that_is_not_there(self) -> None:
         said = f"the state {self.path} can't be read: No such file or directory"
-        with self.assertRaisesRegex(StateError, said):
+        with self.assertRaisesRegex(Fault, said):
             load(self.path)
 
     def test_what_cannot_be_written_leaves_nothing(self) -> None:

@@ -45,6 +45,28 @@ class Files(unittest.TestCase):
         self.assertRegex(said, r"\AWARNING: the reporter has drawn nothing for 8 min 20 s\n")
         self.assertIn("run 9, ", said)
 
+    def test_a_journal_that_can_not_be_read_hides_nothing(self):
+        """Whoever asks need not read the folder of journals."""
+        now = time.time()
+        facts = said_by_the_supervisor("/nosuch", servers=[["192.0.2.1", 123]], pid=os.getpid())
+        facts["run"]["last_journal"] = "a.journal"
+        with open(os.path.join(self.folder, "service.json"), "w", encoding="utf-8") as file:
+            json.dump({**facts, "at": now}, file)
+        self.assertRegex(self.run_status()[1], "the reporter has drawn nothing for ")
+
+    def test_what_is_no_supervisors_word_is_refused_by_a_sentence(self):
+        good = {**said_by_the_supervisor(self.folder), "at": time.time()}
+        radio = {**good["radios"][0], "name": 3}
+        for odd in ([3], {"at": "x"}, {"at": 1e30}, {"at": 2e9}, {**good, "radios": [radio]},
+                    {**good, "links": 5}, {**good, "notes": [7]}, {**good, "at": 1e400},
+                    {**good, "run": []}, {**good, "servers": [[1]]}):
+            with self.subTest(odd=str(odd)[:40]):
+                with open(os.path.join(self.folder, "service.json"), "w", encoding="utf-8") as file:
+                    json.dump(odd, file)
+                with self.assertRaisesRegex(Fault, "service.json isn't of a keeper: "):
+                    self.run_status()
+                self.assertEqual(self.run_status("--nagios")[0], 3)
+
     def test_status_in_each_form(self):
         now = time.time()
         save(Host(), a_good_station(now), os.path.join(self.folder, "state.json"))

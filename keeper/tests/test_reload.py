@@ -1,0 +1,45 @@
+"""What `reload` believes of the file of a keeper that runs."""
+
+import json
+import os
+import pathlib
+import tempfile
+import unittest
+from unittest import mock
+
+from keeper.errors import Fault
+from keeper.reload import told
+
+
+class Told(unittest.TestCase):
+    def setUp(self) -> None:
+        folder = tempfile.TemporaryDirectory()
+        self.addCleanup(folder.cleanup)
+        self.path = pathlib.Path(folder.name) / "service.json"
+
+    def test_its_process_its_reloads_and_a_refusal(self) -> None:
+        facts = {"pid": os.getpid(), "reloads": 3, "refused": "x: it is missing"}
+        self.path.write_text(json.dumps(facts), encoding="utf-8")
+        self.assertEqual(told(str(self.path)), (os.getpid(), 3, "x: it is missing"))
+
+    def test_what_is_none_is_refused_by_a_sentence(self) -> None:
+        good = {"pid": os.getpid(), "reloads": 0, "refused": ""}
+        texts = ["", "{", "[1]", "[" * 100_000, "3"]
+        texts += [json.dumps({**good, "pid": pid}) for pid in ("x", None, -1, 0, 2**40, [])]
+        for text in texts:
+            with self.subTest(text=text[:40]):
+                self.path.write_text(text, encoding="utf-8")
+                with self.assertRaisesRegex(Fault, "isn't of a keeper that runs: "):
+                    told(str(self.path))
+
+    def test_no_process_of_another_user_is_sent_a_signal(self) -> None:
+        """Whoever may write the file must not have root end what isn't theirs."""
+        self.path.write_text('{"pid": 1, "reloads": 0, "refused": ""}', encoding="utf-8")
+        real = os.fstat
+        with mock.patch("os.fstat", lambda what: mock.Mock(wraps=real(what), st_uid=4711)):
+            with self.assertRaisesRegex(Fault, "names process 1, which is another user's"):
+                told(str(self.path))
+
+
+if __name__ == "__main__":
+    unittest.main()
