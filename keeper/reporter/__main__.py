@@ -7,27 +7,29 @@ be killed at any moment, and is started again.
 """
 
 import contextlib
-import functools
 import json
 import logging
 import os
 import select
 import sys
 import time
-from collections.abc import Callable
+from collections.abc import Callable, Mapping
 
 from keeper import config
 from keeper.errors import Fault
 from keeper.reporter import metrics, page
 from keeper.reporter.alarms import Alarms
-from keeper.reporter.state import State, load, put, save
+from keeper.reporter.state import State, load, put, save, text_of
 from keeper.reporter.station_state import Facts, Station
 from keeper.reporter.tidy import tidy
 from keeper.supervisor.clocks import Clocks
 from keeper.supervisor.disk import day_of
 from keeper.supervisor.host import Host, say
 
+Render = Callable[[State, float], str]
 STATE, PAGE, METRICS = "state.json", "status.html", "radio_ntpd.prom"
+SHOWN: Mapping[str, Render] = {
+    STATE: lambda state, now: text_of(state), PAGE: page.render, METRICS: metrics.render}
 TURN = 0.5  # the longest turn (s)
 RENEWED = 10.0  # how often what is shown is renewed (s)
 SAVED = 3600.0  # how often the state is put on the disk, and logs are tidied (s)
@@ -63,19 +65,18 @@ class Reporter:
         """One round."""
         if select.select([0], [], [], TURN)[0]:
             self._read()
-        if self.station is not None:
-            self._turn(self.station)
-
-    def _turn(self, station: Station) -> None:
+        if self.station is None:
+            return
         if step := self.clocks.step():
-            station.move(step)
+            self.station.move(step)
             self.alarms.move(step)
-        station.turn()
-        self._try("alarms", lambda: self._judge(station))
+        self.station.turn()
+        self._try("alarms", self._judge, self.station)
         if self._is_due("renew", RENEWED):
-            self._renew(station)
-        if self._is_due("save", SAVED):
-            self._try("the state", lambda: self._save(station))
+            self._renew(self.station)
+        if self._is_due("save", SAVED) and self.facts["folder"] != self.folder:
+            path = os.path.join(self.facts["folder"], STATE)
+            self._try("the state", save, self.host, self.station.state, path)
         if self._is_due("tidy", SAVED) and not self.is_over:
             self._try("logs and journals", self._tidy)
 
@@ -91,7 +92,7 @@ class Reporter:
         self.is_over = not piece
         *lines, self.half = (self.half + piece).split(b"\n")
         for line in lines:
-            self._try("what the supervisor says", functools.partial(self._take, line))
+            self._try("what the supervisor says", self._take, line)
 
     def _take(self, line: bytes) -> None:
         message = json.loads(line)
@@ -101,12 +102,11 @@ class Reporter:
             self.station.heard(message["radio"], message["pulses"])
 
     def _take_facts(self, facts: Facts) -> None:
-        self.facts = facts
-        begins = self.station is None
+        self.facts, begins = facts, self.station is None
         paths = [os.path.join(one, STATE) for one in (self.folder, facts["folder"])]
         station = self.station = self.station or Station(last_state(*paths))
         station.take(facts)
-        self._try("the last journal", lambda: station.read_journal(facts))
+        self._try("the last journal", station.read_journal, facts)
         self.alarms.settings = config.Alarms(**facts["alarms"])
         if begins:
             self.alarms.recall(station.state)
@@ -124,16 +124,13 @@ class Reporter:
 
     def _renew(self, station: Station) -> None:
         """What is shown; one that can't be drawn or written leaves the others alone."""
-        now, state = time.time(), station.state
-        self._try("reception", lambda: station.renew(now))
-        path = functools.partial(os.path.join, self.folder)
-        self._try(STATE, lambda: save(self.host, state, path(STATE)))
-        self._try(PAGE, lambda: put(self.host, path(PAGE), page.render(state, now)))
-        self._try(METRICS, lambda: put(self.host, path(METRICS), metrics.render(state, now)))
+        now = time.time()
+        self._try("reception", station.renew, now)
+        for name, render in SHOWN.items():
+            self._try(name, self._show, name, render, station.state, now)
 
-    def _save(self, station: Station) -> None:
-        if self.facts["folder"] != self.folder:
-            save(self.host, station.state, os.path.join(self.facts["folder"], STATE))
+    def _show(self, name: str, render: Render, state: State, now: float) -> None:
+        put(self.host, os.path.join(self.folder, name), render(state, now))
 
     def _tidy(self) -> None:
         now, facts = time.time(), self.facts
@@ -143,10 +140,10 @@ class Reporter:
             if os.path.isdir(folder):
                 tidy(self.host, folder, day_of(now), facts["days"], facts["room"], recent)
 
-    def _try(self, what: str, part: Callable[[], None]) -> None:
+    def _try(self, what: str, part: Callable[..., object], *given: object) -> None:
         """Whatever goes wrong in one part leaves the others alone; it is said once."""
         try:
-            part()
+            part(*given)
         except Exception as error:
             if what not in self.failed:
                 why = error.strerror if isinstance(error, OSError) else repr(error)

@@ -234,6 +234,11 @@ def put(host: Host, path: str, text: str) -> None:
     disk.put(host, path, text.encode(errors="backslashreplace"), sync=False)
 
 
+def text_of(state: State) -> str:
+    """The state as its file has it."""
+    return json.dumps(state, default=vars, separators=(",", ":")) + "\n"
+
+
 def save(host: Host, state: State, path: str) -> None:
     """Writes the state, renamed into place. Raises OSError."""
-    put(host, path, json.dumps(state, default=vars, separators=(",", ":")) + "\n")
+    put(host, path, text_of(state))

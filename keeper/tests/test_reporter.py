@@ -12,7 +12,7 @@ from unittest import mock
 
 from keeper import status
 from keeper.arguments import parse
-from keeper.reporter.__main__ import METRICS, PAGE, STATE, Reporter, last_state
+from keeper.reporter.__main__ import METRICS, PAGE, SHOWN, STATE, Reporter, last_state
 from keeper.reporter.state import Alarm, State, load, save
 from keeper.reporter.station_state import Station
 from keeper.supervisor.host import Host
@@ -39,14 +39,16 @@ class Reporters(Folder):
             self.tell(reporter, {"radio": number, "pulses": [[1_000_000, 100_000, 1_000_001]]})
         reporter._renew(station)
         self.assertEqual(sorted(os.listdir(self.runtime)), sorted([STATE, PAGE, METRICS]))
-        reporter._save(station)
+        reporter.due["save"] = 0.0
+        with mock.patch("keeper.reporter.__main__.select.select", return_value=[[]]):
+            reporter.turn()
         saved = load(os.path.join(self.folder, STATE))
         self.assertEqual(saved.radios[0].name, "roof")
 
     def test_what_can_not_be_drawn_leaves_the_rest_alone_and_is_said_once(self) -> None:
         reporter = self.reporter()
         station = self.tell(reporter, {"facts": facts(self.folder)})
-        with mock.patch("keeper.reporter.page.render", side_effect=IndexError("x")):
+        with mock.patch.dict(SHOWN, {PAGE: mock.Mock(side_effect=IndexError("x"))}):
             with self.assertLogs("keeper") as said:
                 reporter._renew(station)
                 reporter._renew(station)
