@@ -7,7 +7,7 @@ import re
 import subprocess
 import tomllib
 from dataclasses import dataclass, field
-from typing import Any, NoReturn
+from typing import Any, BinaryIO, NoReturn
 
 from keeper.chosen_file import built_program
 from keeper.errors import REFUSED, Fault, reason, sentence
@@ -104,11 +104,16 @@ def line_of(text: str, key: str, table: str = "", place: int = 0) -> str:
     return ""
 
 
+def opened(path: str) -> BinaryIO:
+    """A file for reading; the writer of a FIFO in its place isn't waited for. Raises OSError."""
+    return open(path, "rb", opener=lambda name, how: os.open(name, how | os.O_NONBLOCK))
+
+
 def read(path: str) -> tuple[dict, str]:
     """A TOML file and its text. Raises Fault."""
     try:
-        with open(path, "rb") as file:
-            data = file.read(MOST + 1)
+        with opened(path) as file:
+            data = file.read(MOST + 1) or b""
         if len(data) > MOST:
             raise Fault(f"{path}: it has more than {MOST} bytes", REFUSED)
         text = data.decode("utf-8-sig")  # a byte order mark is passed over, as the program does
@@ -226,17 +231,6 @@ def _radio(path: str, text: str, values: object, place: int, tables: list[dict])
         value = os.path.join(os.path.dirname(os.path.abspath(path)), value)
     return Radio(named[0], value, values.get("name", plan), values.get("stall", 60), plan,
                  _number(table, "delay", 0) / 1e6, values.get("steady", False))
-
-
-def unreadable(path: str) -> str:
-    """Why a file can't be read; nothing where it can."""
-    try:
-        descriptor = os.open(path, os.O_RDONLY | os.O_NONBLOCK)  # a FIFO would be waited for
-        with open(descriptor, "rb") as file:
-            file.read(1)
-    except OSError as error:
-        return error.strerror or str(error)
-    return ""
 
 
 def judge(settings: Settings) -> None:

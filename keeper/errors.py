@@ -13,11 +13,16 @@ REFUSED = 78  # the keeper's file or the station file is refused
 INTERRUPTED = 130  # by SIGINT, as a shell says it
 
 
+def plain(text: str) -> str:
+    """A text for a terminal: a character that would control it is a question mark."""
+    return "".join(one if one.isprintable() or one == "\n" else "?" for one in text)
+
+
 class Fault(Exception):
     """A command can't be done: one sentence for the person who gave it, and the exit status."""
 
     def __init__(self, text: str, status: int = HOST):
-        super().__init__(text)
+        super().__init__(plain(text))
         self.status = status
 
 

@@ -12,7 +12,7 @@ import stat
 import time
 
 from keeper.chosen_file import INSTALLED
-from keeper.config import Radio, Settings, unreadable
+from keeper.config import Radio, Settings, opened
 from keeper.receiver import Finding, Level
 from keeper.supervisor.steady import PLACE
 
@@ -190,7 +190,9 @@ def become_service(settings: Settings, user: str = USER) -> list[Finding]:
         os.chdir("/")
     found = [(Level.WELL, f"what follows is looked at as the user {user}, as the service is")]
     for path in (settings.path, settings.station):
-        if why := unreadable(path):
+        try:
+            opened(path).close()
+        except OSError as error:
             lets = f"`chgrp {user} {path}` and `chmod 640 {path}` let the service read it"
-            found.append((Level.BAD, f"{path}: {why}: {lets}"))
+            found.append((Level.BAD, f"{path}: {error.strerror}: {lets}"))
     return found

@@ -40,10 +40,10 @@ def main(asked: argparse.Namespace) -> int:
 def told(path: str) -> tuple[int, int, str]:
     """The keeper's process, how often it has reloaded, and why the last time was refused. What the
     file says is believed of a process of its owner alone. Raises Fault and OSError."""
-    with open(path, encoding="utf-8") as file:
+    with config.opened(path) as file:
         owner = os.fstat(file.fileno()).st_uid
         try:
-            facts = json.load(file)
+            facts = json.loads(file.read() or b"")
             pid, reloads, refused = int(facts["pid"]), int(facts["reloads"]), str(facts["refused"])
             is_its = os.stat(f"/proc/{pid:d}").st_uid == owner
         except (LookupError, OSError, RecursionError, TypeError, ValueError) as error:

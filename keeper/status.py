@@ -8,7 +8,7 @@ import os
 import sys
 import time
 
-from keeper.config import read
+from keeper.config import opened, read
 from keeper.durations import span
 from keeper.errors import DONE, UNKNOWN, Fault
 from keeper.reporter import metrics, overview
@@ -66,8 +66,8 @@ def last(folders: list[str]) -> State:
     folder = next((one for one in folders if os.path.exists(os.path.join(one, STATE))), folders[0])
     path, facts = os.path.join(folder, FACTS), {}
     with contextlib.suppress(OSError, RecursionError, ValueError):
-        with open(path, encoding="utf-8") as file:
-            facts = json.load(file)
+        with opened(path) as file:
+            facts = json.loads(file.read() or b"")
     try:
         state = load(os.path.join(folder, STATE))
     except Fault:

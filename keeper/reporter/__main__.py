@@ -70,7 +70,7 @@ class Reporter:
         if step := self.clocks.step():
             self.station.move(step)
             self.alarms.move(step)
-        self.station.turn()
+        self._try("what decode says", self.station.turn)
         self._try("alarms", self._judge, self.station)
         if self._is_due("renew", RENEWED):
             self._renew(self.station)

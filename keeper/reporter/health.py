@@ -5,6 +5,7 @@ from collections.abc import Iterator
 from enum import IntEnum
 
 from keeper.durations import length, span
+from keeper.errors import plain
 from keeper.reporter.rules import PLANS
 from keeper.reporter.state import SILENT, LinkState, RadioState, State
 
@@ -117,7 +118,7 @@ def summary(state: State, now: float) -> str:
         said = f"time from {link.reference_id}, {precision(link)}"
     else:
         said = "nothing is served"
-    return " ".join(said.replace("|", "/").split())
+    return plain(" ".join(said.replace("|", "/").split()))
 
 
 def precision(link: LinkState) -> str:

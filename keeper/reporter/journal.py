@@ -4,6 +4,7 @@ seen live, and not here."""
 import contextlib
 import os
 
+from keeper.config import opened
 from keeper.ntp import EPOCH
 from keeper.reporter.state import LeapFileState, ServerState, State
 
@@ -26,7 +27,7 @@ def read_journal(path: str, state: State, unix: float) -> None:
         for line in file.read(MOST).split(b"\n"):
             words = line.decode("ascii", "replace").split()
             if len(words) > 5 and words[0] == "j2":
-                with contextlib.suppress(ValueError, IndexError):
+                with contextlib.suppress(ArithmeticError, LookupError, ValueError):
                     _take(feeds.get(int(words[3])), int(words[4]), words[5], words[6:], unix)
 
 
@@ -34,8 +35,8 @@ def _take(feed: ServerState | LeapFileState | None, at: int, kind: str, rest: li
           unix: float) -> None:
     """An entry of a feed, at this microsecond of the counter."""
     if isinstance(feed, LeapFileState) and kind == "notice":
-        feed.notices += 1
         feed.last = max(feed.last, float(int(rest[0]) - EPOCH))
+        feed.notices += 1
     elif isinstance(feed, ServerState) and kind == "declined":
         feed.declined[rest[0]] = feed.declined.get(rest[0], 0) + 1
     elif isinstance(feed, ServerState) and kind == "sample":
@@ -50,11 +51,9 @@ def _take(feed: ServerState | LeapFileState | None, at: int, kind: str, rest: li
 def expiry(path: str) -> float:
     """When a list of leap seconds expires by its own line `#@` (Unix s), 0.0 where it says nothing
     or can't be read."""
-    with contextlib.suppress(OSError):
-        descriptor = os.open(path, os.O_RDONLY | os.O_NONBLOCK)  # a FIFO would be waited for
-        with open(descriptor, "rb") as file:
-            for line in (file.read(LIST) or b"").split(b"\n"):
-                words = line.split()
-                if words[:1] == [b"#@"] and words[1:] and words[1].isdigit() and len(words[1]) < 11:
-                    return float(int(words[1]) - EPOCH)
+    with contextlib.suppress(OSError), opened(path) as file:
+        for line in (file.read(LIST) or b"").split(b"\n"):
+            words = line.split()
+            if words[:1] == [b"#@"] and words[1:] and words[1].isdigit() and len(words[1]) < 11:
+                return float(int(words[1]) - EPOCH)
     return 0.0

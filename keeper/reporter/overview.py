@@ -1,6 +1,7 @@
 """The state for people: what `status` prints, and what the page has as HTML."""
 
 from keeper.durations import ago, clock, length, span
+from keeper.errors import plain
 from keeper.reporter import rules
 from keeper.reporter.health import is_kept, judge, summary, title, worst
 from keeper.reporter.state import QUARTER, QUARTERS, Quarter, RadioState, ServerState, State
@@ -135,4 +136,4 @@ def render(state: State, now: float, unicode: bool = True) -> str:
     lines += columns(servers(state))
     lines += [f"  {one}" for server in state.servers for one in server_notes(server)]
     rest = last_lines(state)
-    return "\n".join(lines + ["", *rest] * bool(rest)) + "\n"
+    return plain("\n".join(lines + ["", *rest] * bool(rest)) + "\n")

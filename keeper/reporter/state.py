@@ -16,6 +16,7 @@ import typing
 from dataclasses import dataclass
 from typing import Any
 
+from keeper.config import opened
 from keeper.errors import Fault
 from keeper.supervisor import disk
 from keeper.supervisor.host import Host
@@ -221,8 +222,8 @@ def read(text: str) -> State:
 def load(path: str) -> State:
     """The state of a file. Raises Fault."""
     try:
-        with open(path, encoding="utf-8") as file:
-            return read(file.read())
+        with opened(path) as file:
+            return read((file.read() or b"").decode())
     except OSError as error:
         raise Fault(f"the state {path} can't be read: {error.strerror}") from error
     except (ValueError, RecursionError) as error:

@@ -21,6 +21,14 @@ def later(day: str, days: int) -> str:
     return parsed.strftime("%Y%m%d")
 
 
+def is_day(text: str) -> bool:
+    """Whether it names a day; a file of ours does."""
+    try:
+        return bool(later(text, 0))
+    except ValueError:
+        return False
+
+
 def compress(host: Host, path: str) -> str:
     """Puts PATH.gz in the place of a log, without what a power cut left at its end, and gives its
     name. Beside one that is there already it has a name of its own, as where the host's clock was
@@ -48,7 +56,8 @@ def tidy(host: Host, folder: str, today: str, days: int, most: int, recent: set[
     """Compresses the logs of a folder but those of `recent` days, which may still be written, and
     removes what is half written, too old, or too much (bytes), the oldest first. How many bytes are
     left. Raises OSError, once it has done what it can."""
-    found = sorted((match[1], one) for one in os.listdir(folder) if (match := DATED.fullmatch(one)))
+    found = sorted((match[1], one) for one in os.listdir(folder)
+                   if (match := DATED.fullmatch(one)) and is_day(match[1]))
     oldest = oldest_kept([day for day, _ in found], today, days)
     sizes, written, refused = dict[str, int](), set[str](), list[OSError]()
     for day, name in found:

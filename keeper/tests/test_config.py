@@ -115,6 +115,16 @@ class Config(Folder):
             with self.subTest(why=why):
                 self.assertEqual(self.refused(text), why)
 
+    def test_a_fifo_in_the_place_of_a_file_is_not_waited_for(self):
+        os.mkfifo(self.folder / "fifo")
+        with self.assertRaisesRegex(Fault, "fifo: station: it is missing"):
+            config.load(str(self.folder / "fifo"))
+        self.assertIn("there are 2 tables", self.refused(KEEPER.replace("station.toml", "fifo")))
+        self.assertIn("Is a directory", self.refused(KEEPER.replace("station.toml", ".")))
+
+    def test_a_key_can_not_control_the_terminal(self):
+        self.assertIn("a?[2Jb: a key that isn't known", self.refused('"a\\u001b[2Jb" = 1\n' + KEEPER))
+
     def test_what_is_no_toml_however_odd_it_is(self):
         for odd in (b"\xff\xfe", b"x = " + b"9" * 5000, b"x = " + b"[" * 20_000, b"x" * 70_000):
             with self.subTest(odd=odd[:9]):
@@ -175,13 +185,6 @@ class Config(Folder):
         said = "the program /bin/true isn't radio_ntpd: it judged the station without a status"
         with self.assertRaisesRegex(Fault, said):
             config.judge(settings)
-
-    def test_files_that_may_not_be_read(self):
-        fifo = self.folder / "fifo"
-        os.mkfifo(fifo)
-        self.assertEqual(config.unreadable(str(fifo)), "")
-        self.assertEqual(config.unreadable(str(self.folder)), "Is a directory")
-        self.assertEqual(config.unreadable("/nosuch"), "No such file or directory")
 
     def test_a_program_that_is_not_there(self):
         with self.assertRaises(Fault) as caught:

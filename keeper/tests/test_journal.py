@@ -16,9 +16,11 @@ j2 5 0 2 1000000 notice 3692217600
 j2 6 0 1 x sample
 j2 7 0 9 1000000 notice 1
 j2 8 0 1 5 sample 1
+j2 9 0 1 1010002 sample 1 {huge} 8837 2
+j2 10 0 2 1 notice {huge}
 link 0 answered 2 dropped 0 again 0 kissed 0 unkept 0 end count
 status 0
-"""
+""".format(huge="9" * 400)
 
 
 class Folder(unittest.TestCase):

@@ -3,6 +3,7 @@
 import unittest
 
 from keeper.reporter import overview
+from keeper.reporter.health import summary
 from keeper.reporter.overview import DIGITS, hours
 from keeper.reporter.state import LeapFileState, Quarter, State
 from keeper.tests.made_station import NOW, a_good_station, made_station
@@ -89,6 +90,16 @@ class Hours(unittest.TestCase):
         self.assertEqual(hours([bad], NOW), "." * 23 + "_")
         odd = [Quarter(BEGUN, -9**15, 3), Quarter(BEGUN - 3600, 9**15)]
         self.assertEqual(hours(odd, NOW, DIGITS), "." * 22 + "8 ")
+
+    def test_nothing_controls_the_terminal(self) -> None:
+        """Who may write the state must not reach the terminal of whoever looks at it."""
+        state = a_good_station()
+        state.notes = ["a\x1b]0;b\x07|\rc"]
+        state.radios[0].last_bad = "\x9b2J"
+        state.run.cause = "\u202ed"
+        shown = overview.render(state, NOW) + summary(state, NOW)
+        self.assertTrue(all(one.isprintable() or one == "\n" for one in shown))
+        self.assertIn("a?]0;b?", shown)
 
 
 if __name__ == "__main__":

@@ -81,6 +81,11 @@ class Files(unittest.TestCase):
                 with self.assertRaisesRegex(Fault, said):
                     load(self.path)
 
+    def test_a_fifo_in_its_place_is_not_waited_for(self) -> None:
+        os.mkfifo(self.path)
+        with self.assertRaisesRegex(Fault, "is no state of a keeper: "):
+            load(self.path)
+
     def test_a_file_that_is_not_there(self) -> None:
         said = f"the state {self.path} can't be read: No such file or directory"
         with self.assertRaisesRegex(Fault, said):

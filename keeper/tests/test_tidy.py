@@ -40,10 +40,11 @@ class Tidied(Folder):
             self.put(f"0-dcf.202311{day:02}.b0070001.log", b"%d 1\n" % day)
         self.put("0-dcf.20231112.b0070001.log.gz.part", b"half")
         self.put("mine.txt", b"mine")
+        self.put("0-dcf.20231399.b0070001.log", b"no day")
         self.tidy()
         self.assertEqual(self.names(), [
             *(f"0-dcf.202311{day}.b0070001.log.gz" for day in (11, 12, 13)),
-            "0-dcf.20231114.b0070001.log", "mine.txt"])
+            "0-dcf.20231114.b0070001.log", "0-dcf.20231399.b0070001.log", "mine.txt"])
         packed = (self.folder / "0-dcf.20231112.b0070001.log.gz").read_bytes()
         self.assertEqual(gzip.decompress(packed), b"12 1\n")
 
