@@ -51,44 +51,38 @@ def keeper_runs(settings: config.Settings) -> bool:
 
 
 def judge_station(settings: config.Settings) -> list[Finding]:
-    """What the program itself says of the station file, and what it can't know."""
+    """What the program itself says of the station file, and what it can't know: what a bound brings
+    with it (docs/OPERATING.md, How to choose a bound), servers, the leap second file, keys."""
     try:
         config.judge(settings)
     except Fault as fault:
         return [(Level.BAD, str(fault))]
-    found = [(Level.WELL, f"{settings.station}: the program takes it")]
-    if not settings.radios and not settings.servers:
-        said = "the station has no radio and no server: it will never have a time"
-        found.append((Level.NOTE, said))
-    found += judge_bound(settings)
-    if settings.servers and settings.radios and not settings.pace:
-        said = "servers beside a radio without pacing outvote it after minutes: set `pace`"
-        found.append((Level.NOTE, said))
-    if settings.leap_file and not os.path.exists(settings.leap_file):
-        found.append((Level.BAD, f"leap_file {settings.leap_file}: it isn't there"))
-    if settings.text.get("key") and os.stat(settings.station).st_mode & 0o007:
-        mend = "chmod 640 it, with the group of the keeper's user"
-        said = f"{settings.station} has keys and can be read by everyone: {mend}"
-        found.append((Level.NOTE, said))
-    return found
-
-
-def judge_bound(settings: config.Settings) -> list[Finding]:
-    """What the station's bound brings with it (docs/OPERATING.md, How to choose a bound)."""
+    radios, servers, station = settings.radios, settings.servers, settings.station
     bound = f"with a bound of {settings.bound * 1e3:.0f} ms"
-    if not settings.radios:
-        return []
-    if settings.bound <= LEAST_BOUND:
-        least = f"its root dispersion is {LEAST_BOUND * 1e3:.0f} ms at least"
-        return [(Level.BAD, f"{bound} no radio gives a time, ever: {least}")]
-    found = []
-    if settings.bound < EARLY_BOUND:
-        late = "there may be no time before the fifth verdict after a first start, or a later one"
-        found.append((Level.NOTE, f"{bound} {late}"))
-    if settings.bound > RAW_BOUND and not all(radio.steady for radio in settings.radios):
-        off = "the time may be farther off than it says, some while after reception ends"
-        found.append((Level.NOTE, f"{bound} and without `steady = true` {off}"))
-    return found
+    is_too_small = bool(radios) and settings.bound <= LEAST_BOUND
+    can_have_time = bool(radios) and not is_too_small
+    is_raw = not all(radio.steady for radio in radios)
+    has_keys = settings.text.get("key") and os.stat(station).st_mode & 0o007
+    leap_file = settings.leap_file
+    rows: tuple[tuple[object, Level, str], ...] = (
+        (True, Level.WELL, f"{station}: the program takes it"),
+        (not radios and not servers, Level.NOTE,
+         "the station has no radio and no server: it will never have a time"),
+        (is_too_small, Level.BAD, f"{bound} no radio gives a time, ever: its root dispersion is "
+         f"{LEAST_BOUND * 1e3:.0f} ms at least"),
+        (can_have_time and settings.bound < EARLY_BOUND, Level.NOTE, f"{bound} there may be no "
+         "time before the fifth verdict after a first start, or a later one"),
+        (can_have_time and settings.bound > RAW_BOUND and is_raw, Level.NOTE,
+         f"{bound} and without `steady = true` the time may be farther off than it says, some "
+         "while after reception ends"),
+        (servers and radios and not settings.pace, Level.NOTE,
+         "servers beside a radio without pacing outvote it after minutes: set `pace`"),
+        (leap_file and not os.path.exists(leap_file), Level.BAD,
+         f"leap_file {leap_file}: it isn't there"),
+        (has_keys, Level.NOTE, f"{station} has keys and can be read by everyone: chmod 640 it, "
+         "with the group of the keeper's user"),
+    )
+    return [(level, said) for is_so, level, said in rows if is_so]
 
 
 def hear(settings: config.Settings, place: int, seconds: int) -> list[Finding]:

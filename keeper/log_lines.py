@@ -88,40 +88,30 @@ def unit_of(start: int, monotonic: float, unix: float) -> tuple[str, str]:
 
 def judge_log(seen: Look, plan: str) -> list[Finding]:
     """Sentences on what was received of a radio of this plan."""
-    if seen.edges and not seen.marks.widths:
-        put = "put `| feeders/edges_to_log.py` after the command"
-        return [(Level.BAD, f"its lines are edges: {put}")]
-    if not seen.lines:
-        why = "no carrier, no power, another line, or no right to it"
-        return [(Level.BAD, f"nothing was received: {why}")]
-    if not seen.marks.widths:
-        said = f"{seen.others} lines were no start and width; the first: {seen.fault}"
+    widths, has = seen.marks.widths, "a log has microseconds"
+    # The first that is so is said alone.
+    of_lines = (
+        (seen.edges and not widths,
+         "its lines are edges: put `| feeders/edges_to_log.py` after the command"),
+        (not seen.lines,
+         "nothing was received: no carrier, no power, another line, or no right to it"),
+        (not widths, f"{seen.others} lines were no start and width; the first: {seen.fault}"),
+        (not any(widths), "its widths are 0: a mark has 1 to 2000000 microseconds"),
+    )
+    if said := next((said for is_so, said in of_lines if is_so), ""):
         return [(Level.BAD, said)]
-    if not max(seen.marks.widths):
-        return [(Level.BAD, "its widths are 0: a mark has 1 to 2000000 microseconds")]
-    return [*_judge_starts(seen), *_judge_units(seen), judge(seen.marks, plan)]
-
-
-def _judge_starts(seen: Look) -> list[Finding]:
-    has = "a log has microseconds"
-    if not seen.unit:
-        said = "its starts are of no clock of this host"
-        return [(Level.BAD, f"{said}: {has} of the monotonic clock")]
-    if seen.clock != "monotonic":
-        said = f"its starts are {seen.unit} of the real-time clock"
-        return [(Level.BAD, f"{said}: {has} of the monotonic clock")]
-    if seen.unit != "microseconds":
-        return [(Level.BAD, f"its starts are {seen.unit}: {has}")]
-    if not seen.bad:
-        return []
-    # One may have been cut off as it was opened.
-    level = Level.BAD if seen.bad > max(1, 0.1 * seen.lines) else Level.NOTE
-    said = f"{seen.bad} of {seen.lines} lines are bad, and the keeper leaves them out"
-    return [(level, f"{said}; the first: {seen.fault}")]
-
-
-def _judge_units(seen: Look) -> list[Finding]:
-    if not seen.unit or seen.width_unit == seen.unit:
-        return []
-    said = f"its widths are {seen.width_unit}, and its starts {seen.unit}"
-    return [(Level.BAD, f"{said}: a log has microseconds in both")]
+    clock = {"real-time": f"{seen.unit} of the real-time clock", "": "of no clock of this host"}
+    # One line may have been cut off as the source was opened.
+    may_be = Level.BAD if seen.bad > max(1, 0.1 * seen.lines) else Level.NOTE
+    of_starts = (
+        (seen.clock != "monotonic", Level.BAD,
+         f"its starts are {clock.get(seen.clock)}: {has} of the monotonic clock"),
+        (seen.unit != "microseconds", Level.BAD, f"its starts are {seen.unit}: {has}"),
+        (seen.bad, may_be, f"{seen.bad} of {seen.lines} lines are bad, and the keeper leaves them "
+         f"out; the first: {seen.fault}"),
+    )
+    found = [(level, said) for is_so, level, said in of_starts if is_so][:1]
+    if seen.unit and seen.width_unit != seen.unit:
+        said = f"its widths are {seen.width_unit}, and its starts {seen.unit}: {has} in both"
+        found.append((Level.BAD, said))
+    return [*found, judge(seen.marks, plan)]

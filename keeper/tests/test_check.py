@@ -182,6 +182,13 @@ class Stations(Folder):
                 "the station has no radio and no server: it will never have a time",
                 "leap_file /nosuch: it isn't there"])
 
+    def bounded(self, bound: float, radios: list[Radio]) -> list[tuple[Level, str]]:
+        """What is said of a bound (s), among what else is said."""
+        settings = Mock(bound=bound, radios=radios, servers=[1], leap_file=None, text={}, pace=16)
+        with mock.patch.object(config, "judge"):
+            found = check.judge_station(settings)
+        return [(level, said) for level, said in found if said.startswith("with a bound")]
+
     def test_bounds(self) -> None:
         bad, note = Level.BAD, Level.NOTE
         for bound, steady, levels in (
@@ -191,11 +198,11 @@ class Stations(Folder):
         ):
             with self.subTest(bound=bound, steady=steady):
                 radios = [Radio("fifo", "x", "", 60.0, "dcf", 0.0, steady)]
-                found = check.judge_bound(Mock(bound=bound / 1e3, radios=radios))
+                found = self.bounded(bound / 1e3, radios)
                 self.assertEqual([level for level, _ in found], levels)
-        self.assertEqual(check.judge_bound(Mock(bound=0.003, radios=[])), [])
+        self.assertEqual(self.bounded(0.003, []), [])
         radios = [Radio("fifo", "x", "", 60.0, "dcf", 0.0)]
-        self.assertEqual([said for _, said in check.judge_bound(Mock(bound=0.1, radios=radios))], [
+        self.assertEqual([said for _, said in self.bounded(0.1, radios)], [
             "with a bound of 100 ms there may be no time before the fifth verdict after a first "
             "start, or a later one",
             "with a bound of 100 ms and without `steady = true` the time may be farther off than "
