@@ -102,14 +102,19 @@ class Reporter:
             self.station.heard(message["radio"], message["pulses"])
 
     def _take_facts(self, facts: Facts) -> None:
-        self.facts, begins = facts, self.station is None
-        paths = [os.path.join(one, STATE) for one in (self.folder, facts["folder"])]
-        station = self.station = self.station or Station(last_state(*paths))
+        self.facts = facts
+        station = self.station = self.station or self._begin(facts)
         station.take(facts)
         self._try("the last journal", station.read_journal, facts)
         self.alarms.settings = config.Alarms(**facts["alarms"])
-        if begins:
-            self.alarms.recall(station.state)
+
+    def _begin(self, facts: Facts) -> Station:
+        """Goes on with what a reporter before this one left."""
+        before = last_state(*(os.path.join(one, STATE) for one in (self.folder, facts["folder"])))
+        station, is_same = Station(before), before and before.keeper_pid == facts["pid"]
+        run = station.state.run.number if is_same else 0
+        self.alarms.recall(station.state.alarms, facts["since"], run)
+        return station
 
     def _judge(self, station: Station) -> None:
         state = station.state

@@ -42,10 +42,12 @@ class Alarms:
         self.died_at = -HELD_OFF
         self.died = 0  # runs that died since that alarm
 
-    def recall(self, state: State) -> None:
-        """What a reporter before this one, of the same keeper, has raised isn't raised again."""
-        for one in state.alarms:
-            if one.at < state.keeper_since:
+    def recall(self, alarms: list[Alarm], since: float, run: int) -> None:
+        """What a reporter before this one has raised isn't raised again: these alarms, of which the
+        keeper's begin at `since` (Unix s), and what it saw of the run of this number."""
+        self.run = run
+        for one in alarms:
+            if one.at < since:
                 continue
             if one.event in ("time-gained", "time-lost"):
                 self.has_time, self.time_at = one.event == "time-gained", one.at
@@ -58,9 +60,8 @@ class Alarms:
         for radio in state.radios:
             self._judge_radio(state, radio, now)
         if state.run.number != self.run:
-            # Of the run that served as this began it isn't known whether it was raised.
-            is_news, self.run = bool(self.run), state.run.number
-            self.died += is_news and state.run.cause in BAD_CAUSES
+            self.run = state.run.number
+            self.died += state.run.cause in BAD_CAUSES
         if self.died and now - self.died_at >= HELD_OFF:
             self._raise_died(state, now)
 

@@ -135,14 +135,14 @@ class Changes(Quiet):
         self.state.alarms = [Alarm("time-lost", 900.0, "of a keeper before"),
                              Alarm("time-gained", 1001.0, "a"), Alarm("run-died", 1002.0, "b")]
         before = self.events(self.state)
-        self.alarms.recall(self.state)
+        self.alarms.recall(self.state.alarms, 1000.0, 7)
         self.assertEqual(self.run_begins(7, "died", 1003.0), before)
         self.assertEqual(self.at(1004, leap=0), before)
         self.assertEqual(self.at(1020, leap=3), [*before, "time-lost"])
 
     def test_alarms_of_a_keeper_before_hold_nothing_off(self):
         self.state.alarms = [Alarm("run-died", 990.0, "a"), Alarm("time-gained", 995.0, "b")]
-        self.alarms.recall(self.state)
+        self.alarms.recall(self.state.alarms, 1000.0, 0)
         self.run_begins(1, "start", 1100.0)
         self.assertEqual(self.run_begins(2, "died", 1101.0)[2:], ["run-died"])
         self.assertEqual(self.at(1102, leap=0)[3:], ["time-gained"])

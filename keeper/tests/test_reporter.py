@@ -98,6 +98,21 @@ class Reporters(Folder):
         reporter._judge(station)
         self.assertEqual([one.text for one in station.state.alarms], ["x"])
 
+    def test_a_run_that_died_before_the_reporter_was_there_is_raised_once(self) -> None:
+        """A reporter takes its time to begin; another one follows it."""
+        said = facts(self.folder)
+        said["run"] |= {"number": 2, "cause": "died"}
+        for turn in range(2):
+            reporter = self.reporter()
+            station = self.tell(reporter, {"facts": said})
+            with contextlib.ExitStack() as stack:
+                if turn == 0:
+                    stack.enter_context(self.assertLogs("keeper"))
+                reporter._judge(station)
+            died = [one.text for one in station.state.alarms if one.event == "run-died"]
+            self.assertEqual(died, ["the run before ended by itself; run 2 follows"])
+            reporter._renew(station)
+
     def test_an_alarm_is_in_the_state_at_once(self) -> None:
         reporter = self.reporter()
         station = self.tell(reporter, {"facts": facts(self.folder)})
