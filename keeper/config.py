@@ -7,7 +7,7 @@ import re
 import subprocess
 import tomllib
 from dataclasses import dataclass, field
-from typing import Any, BinaryIO, NoReturn
+from typing import BinaryIO, NoReturn
 
 from keeper.chosen_file import built_program
 from keeper.errors import REFUSED, Fault, reason, sentence
@@ -88,148 +88,149 @@ TYPES = {str: "a string", int: "a whole number", bool: "true or false", dict: "a
          list: "an array of tables"}
 
 
-def line_of(text: str, key: str, table: str = "", place: int = 0) -> str:
-    """` (line N)` for a key of the top, of a table, or of the table at a place of an array; nothing
-    where it isn't found."""
-    now, seen = "", dict[str, int]()
-    is_key = re.compile(rf"\s*[\"']?{re.escape(key)}[\"']?\s*[=.]")
-    for number, line in enumerate(text.splitlines(), 1):
-        if head := re.match(r"\s*\[\[?\s*([\w.-]+)\s*\]\]?", line):
-            now = head[1]
-            seen[now] = seen.get(now, -1) + 1
-            if key == now and not table:
-                return f" (line {number})"
-        elif now == table and seen.get(now, 0) == place and is_key.match(line):
-            return f" (line {number})"
-    return ""
-
-
 def opened(path: str) -> BinaryIO:
     """A file for reading; the writer of a FIFO in its place isn't waited for. Raises OSError."""
     return open(path, "rb", opener=lambda name, how: os.open(name, how | os.O_NONBLOCK))
 
 
-def read(path: str) -> tuple[dict, str]:
-    """A TOML file and its text. Raises Fault."""
-    try:
-        with opened(path) as file:
-            data = file.read(MOST + 1) or b""
-        if len(data) > MOST:
-            raise Fault(f"{path}: it has more than {MOST} bytes", REFUSED)
-        text = data.decode("utf-8-sig")  # a byte order mark is passed over, as the program does
-        return tomllib.loads(text), text
-    except OSError as error:
-        raise Fault(sentence(error), REFUSED) from error
-    except UnicodeDecodeError as error:
-        raise Fault(f"{path}: it isn't UTF-8", REFUSED) from error
-    except (ValueError, RecursionError) as error:  # also a number of thousands of digits
-        raise Fault(f"{path}: it is no TOML: {error}", REFUSED) from error
+class File:
+    """A TOML file: its text and its values. Raises Fault."""
 
+    def __init__(self, path: str) -> None:
+        self.path = path
+        try:
+            with opened(path) as file:
+                data = file.read(MOST + 1) or b""
+            if len(data) > MOST:
+                raise Fault(f"{path}: it has more than {MOST} bytes", REFUSED)
+            self.text = data.decode("utf-8-sig")  # without a byte order mark, as the program does
+            self.values: dict = tomllib.loads(self.text)
+        except OSError as error:
+            raise Fault(sentence(error), REFUSED) from error
+        except UnicodeDecodeError as error:
+            raise Fault(f"{path}: it isn't UTF-8", REFUSED) from error
+        except (ValueError, RecursionError) as error:  # also a number of thousands of digits
+            raise Fault(f"{path}: it is no TOML: {error}", REFUSED) from error
 
-class Keys:
-    """The keys of one table of the keeper's file, judged one by one. `table` and `place` say which
-    table it is. Raises Fault."""
+    def beside(self, name: str) -> str:
+        """A name that the file has: it begins at the folder of the file."""
+        return os.path.join(os.path.dirname(os.path.abspath(self.path)), name)
 
-    def __init__(self, path: str, text: str, values: dict, known: dict, table: str = "",
-                 place: int | None = None) -> None:
-        self.path, self.text, self.values = path, text, values
-        self.table, self.place = table, place
-        for key in values:
-            if key not in known:
-                self.refuse(key, "a key that isn't known")
-        for key, (kind, *limits) in known.items():
-            if key in values:
-                self._judge(key, values[key], kind, limits)
-
-    def refuse(self, key: str, why: str) -> NoReturn:
-        line = line_of(self.text, key, self.table, self.place or 0)
-        place = "" if self.place is None else f"{self.place}."
-        where = f"{self.table}.{place}" if self.table else ""
+    def refuse(self, key: str, why: str, table: str = "", place: int | None = None) -> NoReturn:
+        """Refuses a key of the top, of a table, or of the table at a place of an array."""
+        line = self._line_of(key, table, place or 0)
+        where = "".join(f"{one}." for one in (table, place) if one not in ("", None))
         raise Fault(f"{self.path}: {where}{key}: {why}{line}", REFUSED)
 
-    def _judge(self, key: str, value: Any, kind: Any, limits: list[int]) -> None:
-        if type(value) is not kind:
-            self.refuse(key, f"it isn't {TYPES[kind]}")
-        if limits and not limits[0] <= value <= limits[1]:
-            self.refuse(key, f"{value} isn't within {limits[0]} to {limits[1]}")
-        if kind is str and (not value.strip() or "\0" in value):
-            self.refuse(key, "it is empty")
+    def _line_of(self, key: str, table: str, place: int) -> str:
+        """` (line N)`; nothing where it isn't found."""
+        now, seen = "", dict[str, int]()
+        is_key = re.compile(rf"\s*[\"']?{re.escape(key)}[\"']?\s*[=.]")
+        for number, line in enumerate(self.text.splitlines(), 1):
+            if head := re.match(r"\s*\[\[?\s*([\w.-]+)\s*\]\]?", line):
+                now = head[1]
+                seen[now] = seen.get(now, -1) + 1
+                if key == now and not table:
+                    return f" (line {number})"
+            elif now == table and seen.get(now, 0) == place and is_key.match(line):
+                return f" (line {number})"
+        return ""
+
+    def judge(self, values: dict, known: dict, table: str = "", place: int | None = None) -> None:
+        """Refuses the first key of a table that isn't known or hasn't a value that it may have."""
+        for key in values:
+            if key not in known:
+                self.refuse(key, "a key that isn't known", table, place)
+        for key, (kind, *limits) in known.items():
+            value = values.get(key)
+            if value is None:
+                continue
+            if type(value) is not kind:
+                self.refuse(key, f"it isn't {TYPES[kind]}", table, place)
+            if limits and not limits[0] <= value <= limits[1]:
+                self.refuse(key, f"{value} isn't within {limits[0]} to {limits[1]}", table, place)
+            if kind is str and (not value.strip() or "\0" in value):
+                self.refuse(key, "it is empty", table, place)
 
 
-def _tables(values: dict, key: str) -> list[dict]:
-    """The tables of an array of the station; what is none is left for the program to refuse."""
-    found = values.get(key, [])
-    return [one for one in found if isinstance(one, dict)] if isinstance(found, list) else []
+# Of the station, which the program judges later, and which may have anything now.
 
-
-def _number(values: dict, key: str, default: float) -> float:
-    """A number of the station; the default where it is none, or so great that the program refuses
-    it anyway."""
+def _number(values: dict, key: str, default: int) -> int:
+    """A number; the default where it is none, or so great that the program refuses it anyway."""
     value = values.get(key)
     return value if type(value) is int and abs(value) < LARGEST else default
 
 
-def _text(values: dict, key: str) -> str | None:
-    """A text of the station; None where it is none."""
+def _text(values: dict, key: str) -> str:
+    """A text, empty where it is none."""
     value = values.get(key)
-    return value if isinstance(value, str) else None
+    return value if isinstance(value, str) else ""
+
+
+def _tables(values: dict, key: str) -> list[dict]:
+    """The tables of an array."""
+    found = values.get(key)
+    return [one for one in found if isinstance(one, dict)] if isinstance(found, list) else []
 
 
 def _port(values: dict) -> int:
-    """The port of a link or a server, 1 to 65535; 0 where it has none, which the program
-    refuses."""
+    """The port of a link or a server, 1 to 65535; 0 where it has none."""
     port = _number(values, "port", 0)
-    return int(port) if 0 < port < 65536 else 0
+    return port if 0 < port < 65536 else 0
 
 
 def load(path: str) -> Settings:
     """Both files. Raises Fault for the first thing that isn't right; whether the station itself is
     valid `judge` asks the program."""
-    values, text = read(path)
-    base = os.path.dirname(os.path.abspath(path))
-    top = Keys(path, text, values, TOP)
-    alarms = Keys(path, text, values.get("alarms", {}), ALARMS, "alarms").values
+    file = File(path)
+    values, alarms = file.values, file.values.get("alarms", {})
+    file.judge(values, TOP)
+    file.judge(alarms, ALARMS, "alarms")
     if "station" not in values:
-        top.refuse("station", "it is missing")
-    station_path = os.path.join(base, values["station"])
-    station, _ = read(station_path)
-    tables = _tables(station, "radio")
-    radios = [_radio(path, text, one, place, tables)
-              for place, one in enumerate(values.get("radio", []))]
+        file.refuse("station", "it is missing")
+    station_path = file.beside(values["station"])
+    station = File(station_path).values
+    tables, radios = _tables(station, "radio"), values.get("radio", [])
+    for place, radio in enumerate(radios):
+        _judge_radio(file, radio, place)
     if len(radios) != len(tables):
-        here, line = f"there are {len(radios)} tables [[radio]] here", line_of(text, "radio")
-        raise Fault(f"{path}: radio: {here}, and {len(tables)} in {station_path}{line}", REFUSED)
+        file.refuse("radio", f"there are {len(radios)} tables [[radio]] here, and {len(tables)} in "
+                    f"{station_path}")
     servers = [(address, port) for one in _tables(station, "server")
-               if (address := _text(one, "address")) is not None and (port := _port(one))]
-    pace, folder = values.get("pace", 16), os.path.join(base, values.get("state", "state"))
-    program = os.path.join(base, values["program"]) if "program" in values else built_program()
+               if (address := _text(one, "address")) and (port := _port(one))]
+    pace, folder = values.get("pace", 16), file.beside(values.get("state", "state"))
     return Settings(
-        path=os.path.abspath(path), station=station_path, text=station, program=program,
-        folder=folder, runtime=os.path.join(base, values.get("runtime", folder)),
+        path=os.path.abspath(path), station=station_path, text=station,
+        program=file.beside(values["program"]) if "program" in values else built_program(),
+        folder=folder, runtime=file.beside(values.get("runtime", folder)),
         cycle=values.get("cycle", UNPACED_CYCLE if servers and not pace else 3600),
         days=values.get("days", 30), room=values.get("room", 1000) * 1_000_000, pace=pace,
-        radios=radios, links=[port for one in _tables(station, "link") if (port := _port(one))],
+        radios=[_radio(file, *both) for both in zip(radios, tables)],
+        links=[port for one in _tables(station, "link") if (port := _port(one))],
         servers=servers,
-        denied=[net for one in _tables(station, "deny") if (net := _text(one, "net")) is not None],
+        denied=[net for one in _tables(station, "deny") if (net := _text(one, "net"))],
         gap=_number(station, "gap", 0) / 1e6, bound=_number(station, "bound", 1000) / 1e3,
-        leap_file=_text(station, "leap_file"), alarms=Alarms(**alarms))
+        leap_file=_text(station, "leap_file") or None, alarms=Alarms(**alarms))
 
 
-def _radio(path: str, text: str, values: object, place: int, tables: list[dict]) -> Radio:
+def _judge_radio(file: File, values: object, place: int) -> None:
     if not isinstance(values, dict):
-        raise Fault(f"{path}: radio.{place}: it is no table", REFUSED)
-    keys = Keys(path, text, values, RADIO, "radio", place)
+        raise Fault(f"{file.path}: radio.{place}: it is no table", REFUSED)
+    file.judge(values, RADIO, "radio", place)
     named = [kind for kind in KINDS if kind in values]
     if len(named) != 1:
-        which = named[1] if named else "command"
-        keys.refuse(which, "one of command, fifo and file must stand there, and no more than one")
+        why = "one of command, fifo and file must stand there, and no more than one"
+        file.refuse(named[1] if named else "command", why, "radio", place)
     if not values.get("name", "").isprintable():
-        keys.refuse("name", "it has a character that can't be printed")
-    table = tables[place] if place < len(tables) else {}
-    plan, value = _text(table, "plan") or "", values[named[0]]
-    if named[0] != "command":
-        value = os.path.join(os.path.dirname(os.path.abspath(path)), value)
-    return Radio(named[0], value, values.get("name", plan), values.get("stall", 60), plan,
+        file.refuse("name", "it has a character that can't be printed", "radio", place)
+
+
+def _radio(file: File, values: dict, table: dict) -> Radio:
+    """A radio of the keeper's file, and its table of the station."""
+    kind = next(kind for kind in KINDS if kind in values)
+    value = values[kind] if kind == "command" else file.beside(values[kind])
+    plan = _text(table, "plan")
+    return Radio(kind, value, values.get("name", plan), values.get("stall", 60), plan,
                  _number(table, "delay", 0) / 1e6, values.get("steady", False))
 
 

@@ -8,7 +8,7 @@ import os
 import sys
 import time
 
-from keeper.config import opened, read
+from keeper.config import File, opened
 from keeper.durations import span
 from keeper.errors import DONE, UNKNOWN, Fault
 from keeper.reporter import metrics, overview
@@ -55,9 +55,9 @@ def folders_of(config: str | None) -> list[str]:
     path = config or next((one for one in FILES if os.access(one, os.R_OK)), None)
     if path is None:
         return FOLDERS
-    values, base = read(path)[0], os.path.dirname(os.path.abspath(path))
-    folder = str(values.get("state", "state"))
-    return [os.path.join(base, one) for one in (str(values.get("runtime", folder)), folder)]
+    file = File(path)
+    folder = str(file.values.get("state", "state"))
+    return [file.beside(one) for one in (str(file.values.get("runtime", folder)), folder)]
 
 
 def last(folders: list[str]) -> State:
