@@ -5,6 +5,7 @@ import contextlib
 import os
 import subprocess
 from collections.abc import Callable
+from typing import IO, cast
 
 PAUSE = 10.0  # between two starts (s)
 MOST = 4096  # what is read of its output in one go, in bytes
@@ -17,47 +18,40 @@ class Decoder:
         self.words = [program, "decode", "--plan", plan, "--log", "/dev/stdin"]
         self.tell = tell
         self.child: subprocess.Popen[bytes] | None = None
-        self.given = self.taken = -1  # our ends of its input and its output
         self.due = 0.0
         self.half = b""
 
     def _start(self, now: float) -> None:
         self.due, self.half = now + PAUSE, b""
         with contextlib.suppress(OSError):
-            self.child = child = subprocess.Popen(
-                self.words, bufsize=0, stdin=subprocess.PIPE, stdout=subprocess.PIPE,
-                stderr=subprocess.DEVNULL)
-            assert child.stdin and child.stdout
-            self.given, self.taken = child.stdin.fileno(), child.stdout.fileno()
-            for one in (self.given, self.taken):
-                os.set_blocking(one, False)
+            self.child = subprocess.Popen(self.words, bufsize=0, stdin=subprocess.PIPE,
+                                          stdout=subprocess.PIPE, stderr=subprocess.DEVNULL)
+            for pipe in (self.child.stdin, self.child.stdout):
+                os.set_blocking(cast(IO[bytes], pipe).fileno(), False)
 
     def give(self, lines: bytes, now: float) -> None:
         """Whole lines of the log, at this moment of the monotonic clock (s). Where it can't take
-        them it is started anew, later."""
+        them all it is started anew, later: half a line would corrupt what follows."""
         if self.child is None and now >= self.due:
             self._start(now)
-        if self.child is None:
-            return
-        try:
-            # Half a line would corrupt what follows, so a pipe that takes less than all is as bad
-            # as one that takes nothing.
-            if os.write(self.given, lines) < len(lines):
+        if self.child and self.child.stdin:
+            try:
+                is_taken = self.child.stdin.write(lines) == len(lines)
+            except OSError:
+                is_taken = False
+            if not is_taken:
                 self.close()
-        except OSError:
-            self.close()
 
     def turn(self) -> None:
         """Reads what there is. Call it once a second or more often."""
-        while self.child is not None:
+        while self.child and self.child.stdout:
             try:
-                piece = os.read(self.taken, MOST)
+                piece = os.read(self.child.stdout.fileno(), MOST)
             except BlockingIOError:
                 return
+            *lines, self.half = (self.half + piece).split(b"\n")
             if not piece:
                 self.close()
-                return
-            *lines, self.half = (self.half + piece).split(b"\n")
             for line in lines:
                 self.tell(line.decode("ascii", "replace"))
 
