@@ -23,6 +23,7 @@ EVENTS = {
     "file-refused": "a reload was refused",
 }
 LOST = {"slept": ", since the host slept", "paused": ", since the host was paused"}
+UNHEARD, HEARD = " has had no verdict", " is received again"  # after a radio's name
 BAD_CAUSES = {"died": "ended by itself", "silent": "didn't answer any more"}
 
 log = logging.getLogger(__name__)
@@ -37,7 +38,7 @@ class Alarms:
         self.state_file = state_file
         self.has_time: bool | None = None
         self.time_at = 0.0
-        self.silent: set[int] = set()
+        self.silent: set[str] = set()  # names of radios
         self.run = 0
         self.died_at = -HELD_OFF
         self.died = 0  # runs that died since that alarm
@@ -53,6 +54,10 @@ class Alarms:
                 self.has_time, self.time_at = one.event == "time-gained", one.at
             elif one.event == "run-died":
                 self.died_at = one.at
+            elif one.event == "radio-unheard":
+                self.silent.add(one.text.partition(UNHEARD)[0])
+            elif one.event == "radio-heard":
+                self.silent.discard(one.text.removesuffix(HEARD))
 
     def judge(self, state: State, now: float) -> None:
         """Raises what changed since the last call (`now` in Unix s)."""
@@ -100,15 +105,14 @@ class Alarms:
         begun = max(state.keeper_since, radio.since)
         silent = now - max(radio.minute_at, begun)
         if silent >= self.settings.unheard:
-            if radio.number not in self.silent:
-                self.silent.add(radio.number)
+            if name not in self.silent:
+                self.silent.add(name)
                 why = f": {radio.fault}" if radio.fault else ""
-                said = f"{name} has had no verdict for {silent:.0f} s{why}"
+                said = f"{name}{UNHEARD} for {silent:.0f} s{why}"
                 self.raise_alarm(state, "radio-unheard", said, now, radio.number)
-        elif radio.number in self.silent and radio.minute_at > begun:
-            self.silent.discard(radio.number)
-            said = f"{name} is received again"
-            self.raise_alarm(state, "radio-heard", said, now, radio.number)
+        elif name in self.silent and radio.minute_at > begun:
+            self.silent.discard(name)
+            self.raise_alarm(state, "radio-heard", name + HEARD, now, radio.number)
 
     def move(self, step: float) -> None:
         """The host's clock was set forward by this number of seconds."""

@@ -140,6 +140,18 @@ class Changes(Quiet):
         self.assertEqual(self.at(1004, leap=0), before)
         self.assertEqual(self.at(1020, leap=3), [*before, "time-lost"])
 
+    def test_a_radio_that_was_unheard_before_the_reporter_is_heard_again(self):
+        """One that is started again raises neither twice, and misses none."""
+        self.alarms.has_time = False
+        self.assertEqual(self.at(1600), ["radio-unheard"])
+        for again, minute_at, due in ((1700, None, ["radio-unheard"]), (2400, None, ["radio-unheard"]),
+                                      (2500, 2500.0, ["radio-unheard", "radio-heard"]),
+                                      (2600, None, ["radio-unheard", "radio-heard"])):
+            self.alarms = Alarms(Host())
+            self.alarms.settings, self.alarms.has_time = config.Alarms(unheard=600.0), False
+            self.alarms.recall(self.state.alarms, 1000.0, 1)
+            self.assertEqual(self.at(again, minute_at=minute_at), due)
+
     def test_alarms_of_a_keeper_before_hold_nothing_off(self):
         self.state.alarms = [Alarm("run-died", 990.0, "a"), Alarm("time-gained", 995.0, "b")]
         self.alarms.recall(self.state.alarms, 1000.0, 0)
