@@ -44,10 +44,12 @@ def _wrapped(phase: int) -> int:
 
 class Reception:
     """Keeps one radio's state. `minutes` are those of the last hour, with their kinds; `pulses`
-    those of the last five minutes: start, width, start as it is handed on (us of the counter)."""
+    those of the last five minutes: start, width, start as it is handed on (us of the counter).
+    Minutes up to `counted` (Unix s) are in the picture of the day already: a reporter that begins
+    is told the last ones again."""
 
-    def __init__(self, radio: RadioState) -> None:
-        self.radio = radio
+    def __init__(self, radio: RadioState, counted: float = 0.0) -> None:
+        self.radio, self.counted = radio, counted
         self.minutes: collections.deque[tuple[float, str]] = collections.deque()
         self.pulses: collections.deque[tuple[int, int, int]] = collections.deque()
 
@@ -72,7 +74,7 @@ class Reception:
         # What a source says of the time before it was read comes at once, and belongs to when it
         # was.
         kind, at = words[2], min(now, close)
-        quarter = self._quarter(at)
+        quarter = self._quarter(at) if at > self.counted else Quarter()
         if kind == "refused":
             quarter.refused[words[3]] = quarter.refused.get(words[3], 0) + 1
             kind = f"refused {words[3]}"
@@ -87,6 +89,7 @@ class Reception:
     def move(self, step: float) -> None:
         """The host's clock was set forward by this number of seconds."""
         self.minutes = collections.deque((at + step, kind) for at, kind in self.minutes)
+        self.counted += step
         self.radio.since += step
         self.radio.minute_at += step if self.radio.minute_at else 0.0
 

@@ -19,8 +19,8 @@ LATE = 600.0  # events that are older than their facts by this raise no alarm (s
 class Radio:
     """A radio: its reception, and a `decode` beside it."""
 
-    def __init__(self, state: RadioState, program: str) -> None:
-        self.reception = Reception(state)
+    def __init__(self, state: RadioState, program: str, counted: float) -> None:
+        self.reception = Reception(state, counted)
         self.decoder = Decoder(program, state.plan, self._take)
 
     def _take(self, line: str) -> None:
@@ -72,7 +72,8 @@ class Station:
             state.radios = [RadioState(since=facts["at"], plan=one["plan"], minute=was.minute,
                                        minute_at=was.minute_at, reception=was.reception)
                             for one, was in zip(said, known)]
-            self.radios = [Radio(one, facts["program"]) for one in state.radios]
+            counted = min(state.written, facts["at"])  # the clock may have been ahead then
+            self.radios = [Radio(one, facts["program"], counted) for one in state.radios]
             self.sources = now
         for radio, one in zip(state.radios, said):
             vars(radio).update(one)

@@ -86,10 +86,15 @@ class Minutes(unittest.TestCase):
         self.reception.renew(MINUTE + 86400 + 5)
         self.assertEqual((self.radio.verdicts_hour, self.radio.recent), (1, {"verdict": 1}))
 
-    def test_a_keeper_that_begins_anew_goes_on_in_the_same_quarter(self) -> None:
-        self.reception.take(LINE, MINUTE, UNIX)
-        Reception(self.radio).take(LINE, MINUTE + 60, UNIX)
+    def test_a_reporter_that_begins_anew_goes_on_in_the_same_quarter(self) -> None:
+        """It is told again what the one before it has counted."""
+        self.reception.take(LINE, MINUTE + 1, UNIX)
+        later = Reception(self.radio, counted=MINUTE + 5)
+        for line in (LINE, "0 422003000 verdict 3976257960 0"):
+            later.take(line, MINUTE + 61, UNIX)
         self.assertEqual([one.verdict for one in self.radio.reception], [2])
+        later.renew(MINUTE + 62)
+        self.assertEqual(self.radio.verdicts_hour, 2)
 
 
 class Marks(unittest.TestCase):
