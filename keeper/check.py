@@ -8,7 +8,7 @@ from collections.abc import Iterator
 
 from keeper import config, host_checks, lock
 from keeper.chosen_file import chosen
-from keeper.errors import DONE, NOT_WELL, Fault
+from keeper.errors import DONE, NOT_WELL, Fault, plain
 from keeper.log_lines import judge_log, look
 from keeper.receiver import Finding, Level
 from keeper.supervisor.host import Host
@@ -41,7 +41,7 @@ def main(asked: argparse.Namespace) -> int:
 
 def tell(finding: Finding) -> Finding:
     level, text = finding
-    print(f"{level.value:<5} {text}", flush=True)
+    print(plain(f"{level.value:<5} {text}"), flush=True)
     return finding
 
 

@@ -130,6 +130,10 @@ class Whole(Folder):
         self.assertEqual(raised.exception.status, REFUSED)
         self.assertIn("speed", str(raised.exception))
 
+    def test_a_command_can_not_control_the_terminal(self) -> None:
+        said = self.run_check("--seconds", "0", command="a\\u001b[2Jb")[1]
+        self.assertIn("there is no program a?[2Jb", said)
+
     def test_a_port_that_is_taken(self) -> None:
         with socket.socket(socket.AF_INET, socket.SOCK_DGRAM) as other:
             other.bind(("0.0.0.0", 0))
