@@ -21,6 +21,7 @@ from keeper.supervisor.pulses import Lines, Pulse
 from keeper.supervisor.sources import Ended, source_of
 
 REPORTS = 20  # how often it says how far it is
+MOST = 2_000_000  # pulses that are kept: a week of MSF has 800,000
 HOST_CLOCK = "the host's clock, which has to be good by itself: `chronyc tracking` says how good"
 
 
@@ -63,6 +64,8 @@ def listen(settings: config.Settings, number: int, server: Server | None,
             if server:
                 server.turn(now)
             pulses += lines.take(piece, at)
+            if len(pulses) > MOST:
+                raise Fault(f"radio {number}: it is noise: more than {MOST} pulses came")
             if now >= due + seconds / REPORTS:
                 due += seconds / REPORTS
                 far = f"{(now - begin) / 60:.0f} of {seconds / 60:.0f} min"

@@ -147,6 +147,13 @@ class Whole(unittest.TestCase):
                          r"(?m)^\d\d:\d\d:\d\d 0 of 0 min: 8[34][0-9] pulses were read$")
         self.assertLessEqual(self.said.getvalue().count("\n"), calibrate.REPORTS)
 
+    def test_noise_does_not_fill_the_memory(self):
+        self.write("marks", "\n".join(self.marks()) + "\n")
+        self.settings(f"cat {self.folder}/marks; exec sleep 60")
+        with mock.patch.object(calibrate, "MOST", 500):
+            with self.assertRaisesRegex(Fault, "radio 0: it is noise: more than 500 pulses came"):
+                self.calibrate(9.0)
+
     def test_too_little(self):
         self.settings("sleep 60")
         told, said = self.calibrate(0.5)
