@@ -10,7 +10,8 @@ from keeper.errors import USAGE
 from keeper.lateness import FEWEST
 
 COMMANDS = {
-    "run": "keeps the station's server running until SIGTERM or SIGINT",
+    "run": "keeps the station's server running until SIGTERM or SIGINT; SIGHUP reads both files "
+           "anew",
     "reload": "has the keeper that runs read both files anew, and says whether it took them",
     "status": "says how the station is, from the file that the keeper renews every ten seconds",
     "watch": "says how the station is, redrawn until it is interrupted",
