@@ -90,7 +90,7 @@ class Kept(unittest.TestCase):
     def said(self) -> str:
         return (self.folder / "said").read_text()
 
-    def waits(self, until: Callable[[], object] | str, seconds: float = 30.0) -> None:
+    def waits(self, until: Callable[[], object] | str, seconds: float = 120.0) -> None:
         end = time.monotonic() + seconds
         while not (until in self.said() if isinstance(until, str) else until()):
             self.assertLess(time.monotonic(), end, f"{until} doesn't come: {self.said()}")
