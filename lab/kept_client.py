@@ -5,8 +5,8 @@
 BASE is what the time is ahead of the monotonic clock, in seconds. It prints a line of JSON at the end, or when it gets SIGTERM, and at each
 SIGUSR1 one of what it has met so far:
 asked, answered, timed  requests, answers, answers with the time
-silent                  the longest span without an answer: from the first request that got none to the next that got one, in seconds. It is
-                        counted in requests: a span in which this client itself was stalled isn't one without answers
+silent                  the longest span without an answer within a second: from the first request that got none to the next that got one, in
+                        seconds. It is counted in requests: a span in which this client itself was stalled isn't one without answers
 untimed                 the same for answers with the time; before the first of them nothing counts
 stalled                 by how much the machine stalled a bare echo server at worst, or this client, in seconds
 error                   the greatest error of an answer with the time beyond its own way there and back, in seconds
@@ -16,6 +16,7 @@ stalls                  the worst stall of each second that had one of 5 ms or m
 """
 
 import argparse
+import collections
 import json
 import select
 import signal
@@ -26,6 +27,7 @@ from lab.kept_machine import Echo
 from lab.packets import UNIX, WHOLE, Header, read, request
 
 STALL = 0.005  # a stall that is shorter is not told, in seconds
+LOST = 1.0  # a request without an answer for so long is lost, in seconds
 
 
 class Spans:
@@ -74,19 +76,23 @@ class Stalls:
 
 
 class Client:
-    """What one client met."""
+    """What one client met. At a change of run two processes answer on one socket, so answers may come in another order than requests."""
 
     def __init__(self, port: int, base: float, rate: float) -> None:
         self.base, self.rate = base, rate
         self.socket = to_server(port, 0)
-        self.sent: dict[int, int] = {}  # the numbers of the requests, by their stamps
+        self.sent: dict[int, int] = {}  # the numbers of the requests that aren't answered yet, by their stamps
+        self.open: collections.deque[tuple[int, int]] = collections.deque()  # numbers and stamps of those that aren't counted yet
+        self.had_time: dict[int, bool] = {}  # of these, whether the answer had the time
         self.silence, self.untime = Spans(), Spans()
         self.asked = self.answered = self.timed = self.wrong = 0
         self.error = 0.0
+        self.began = False  # whether an answer had the time
 
-    def ask(self) -> None:
-        stamp = time.monotonic_ns()
+    def ask(self, stamp: int) -> None:
+        """Sends a request at this moment (monotonic ns)."""
         self.sent[stamp] = self.asked
+        self.open.append((self.asked, stamp))
         self.asked += 1
         try:
             self.socket.send(request(stamp))
@@ -98,42 +104,52 @@ class Client:
             try:
                 datagram = self.socket.recv(1024)
             except BlockingIOError:
-                return
+                break
             except OSError:
                 continue
-            came = time.monotonic_ns() / 1e9
-            header = read(datagram)
-            if header is None or header.origin not in self.sent:
-                continue
-            number = self.sent.pop(header.origin)
-            self.settle(number)
-            self.take(header, number / self.rate, header.origin / 1e9, came)
+            if header := read(datagram):
+                self.take(header, time.monotonic_ns() / 1e9)
+        self.settle(time.monotonic_ns() / 1e9 - LOST)
 
-    def settle(self, before: int) -> None:
-        """The requests before this one that aren't answered are lost: answers come in their order."""
-        for stamp, number in list(self.sent.items()):
-            if number < before:
-                del self.sent[stamp]
-                self.silence.miss(number / self.rate, stamp / 1e9)
-                if self.timed:
-                    self.untime.miss(number / self.rate, stamp / 1e9)
-
-    def take(self, header: Header, due: float, sent: float, came: float) -> None:
-        """An answer: when its request was due by the client's own count, when it was sent, and when the answer came (s)."""
+    def take(self, header: Header, came: float) -> None:
+        """An answer that came at this moment (monotonic s)."""
+        number = self.sent.pop(header.origin, None)
+        if number is None:
+            return
         self.answered += 1
-        self.silence.hit(due)
-        if header.leap == 3 or header.stratum == 0:
-            if self.timed:
-                self.untime.miss(due, sent)
+        self.had_time[number] = header.leap != 3 and header.stratum != 0
+        if not self.had_time[number]:
             return
         self.timed += 1
-        self.untime.hit(due)
         # In whole numbers the stamps lie between the request's moment and the answer's.
-        earliest, latest = (round((moment + self.base + UNIX) * 1e6) for moment in (sent, came))
+        earliest, latest = (round((moment + self.base + UNIX) * 1e6) for moment in (header.origin / 1e9, came))
         error = max(0, earliest - header.receive * 1_000_000 // WHOLE, header.transmit * 1_000_000 // WHOLE - latest) / 1e6
         self.error = max(self.error, error)
         # What the stamps say to the microsecond is rounded twice.
         self.wrong += error > header.root_dispersion / 65536 + header.root_delay / 131072 + 2e-6
+
+    def settle(self, until: float) -> None:
+        """Counts requests in their order: those with an answer, and as lost those that were sent until this moment (monotonic s)."""
+        while self.open and (self.open[0][0] in self.had_time or self.open[0][1] / 1e9 <= until):
+            number, stamp = self.open.popleft()
+            due, sent = number / self.rate, stamp / 1e9
+            self.sent.pop(stamp, None)
+            had_time = self.had_time.pop(number, None)
+            if had_time is None:
+                self.silence.miss(due, sent)
+            else:
+                self.silence.hit(due)
+            if had_time:
+                self.began = True
+                self.untime.hit(due)
+            elif self.began:
+                self.untime.miss(due, sent)
+
+    def finish(self) -> None:
+        """Counts what was asked until now as lost where it has no answer."""
+        self.settle(float("inf"))
+        for spans in (self.silence, self.untime):
+            spans.finish(self.asked / self.rate)
 
     def report(self) -> dict:
         return {
@@ -171,13 +187,14 @@ def main() -> None:
             stalls.note(time.monotonic(), echo.hear())
             continue
         stalls.note(time.monotonic(), -wait)
-        client.ask()
+        client.ask(time.monotonic_ns())
         echo.ask()
         due = max(due + 1 / rate, time.monotonic())
-    time.sleep(0.2)
-    client.hear()
-    for spans in (client.silence, client.untime):
-        spans.finish(client.asked / rate)
+    end = time.monotonic() + LOST
+    while client.open and time.monotonic() < end:
+        time.sleep(0.02)
+        client.hear()
+    client.finish()
     echo.close()
     tell(client, stalls)
 

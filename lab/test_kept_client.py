@@ -18,19 +18,35 @@ class Counting(unittest.TestCase):
     def ask(self, answer: str) -> None:
         """A request every 10 ms, and what comes of it."""
         sent, self.number = 50.0 + self.number / 100, self.number + 1
-        self.client.sent[round(sent * 1e9)], self.client.asked = self.number - 1, self.number
-        if answer == "nothing":
-            return
-        self.client.settle(self.client.sent.pop(round(sent * 1e9)))
-        wrong = 5.0 if answer == "wrong" else 0.0
-        now = stamp(sent + 0.001 + wrong)
-        header = Header(3 if answer == "INIT" else 0, 4, 4, 1, 6, -20, 0, 64, 0, 0, 0, now, now)
-        self.client.take(header, (self.number - 1) / 100, sent, sent + 0.002)
+        self.client.ask(round(sent * 1e9))
+        if answer != "nothing":
+            self.answer(self.number - 1, answer)
+
+    def answer(self, number: int, answer: str) -> None:
+        """An answer 2 ms after the request of this number."""
+        sent = 50.0 + number / 100
+        now = stamp(sent + 0.001 + (5.0 if answer == "wrong" else 0.0))
+        self.client.take(Header(3 if answer == "INIT" else 0, 4, 4, 1, 6, -20, 0, 64, 0, 0, round(sent * 1e9), now, now), sent + 0.002)
 
     def met(self, *answers: str) -> dict:
         for one in answers:
             self.ask(one)
+        self.client.finish()
         return self.client.report()
+
+    def test_an_answer_that_overtakes_another_loses_nothing(self):
+        for _ in range(4):
+            self.ask("nothing")
+        for number in (1, 0, 3):
+            self.answer(number, "time")
+            self.client.settle(49.5)
+        self.assertEqual([number for number, _ in self.client.open], [2, 3])
+        self.client.settle(50.02)
+        found = self.client.report()
+        self.assertEqual((found["asked"], found["answered"], found["timed"]), (4, 3, 3))
+        self.assertEqual((found["silences"], found["untimes"]), ([(50.02, 0.01, 1)], [(50.02, 0.01, 1)]))
+        self.answer(2, "time")
+        self.assertEqual(self.client.answered, 3, "it came too late")
 
     def test_no_time_counts_from_the_first_time_on(self):
         found = self.met("INIT", "nothing", "INIT", "time", "time")
