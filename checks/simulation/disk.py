@@ -143,7 +143,7 @@ class Disk:
             self.folders[path] = Folder(self.is_memory(path))
 
     def create(self, path: str, kind: str = "file", by_host: bool = False) -> Inode:
-        """A new file. Whatever `by_host` is made at a boot is on another disk."""
+        """A new file. What others make (`by_host`) is on another disk."""
         folder, name = self.split(path)
         if not by_host and (self.full_memory if folder.is_memory else self.full):
             raise OSError(28, "No space left on device", path)

@@ -226,7 +226,7 @@ def _file(machine: Machine, more: tuple[str, ...], what: str) -> None:
         writer.leave(machine.world.random.choice((0.0, 0.5, 3.0)))
     elif what == "replace":
         writer.leave(0.0)
-        machine.disk.create(writer.path, writer.kind)
+        machine.disk.create(writer.path, writer.kind, by_host=True)
     elif inode:
         inode.over(machine.world.now)
         inode.data.clear()

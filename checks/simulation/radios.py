@@ -179,7 +179,7 @@ class Writer:
     def _opened(self) -> Open | None:
         inode: Inode | None = self.disk.find(self.path)
         if inode is None and self.kind == "file":
-            inode = self.disk.create(self.path)
+            inode = self.disk.create(self.path, by_host=True)
         if inode is None:
             return None
         if inode.fifo:
