@@ -116,7 +116,7 @@ def _cut(machine: Machine, more: tuple[str, ...]) -> None:
     host = machine.kills
 
     def now() -> None:
-        machine.judge.slept(True)
+        machine.judge.slept(OFF)
         machine.cut(OFF)
         if host:
             host.die()
@@ -139,12 +139,12 @@ def _term_twice(machine: Machine, more: tuple[str, ...]) -> None:
 
 def _sleep(machine: Machine, more: tuple[str, ...]) -> None:
     machine.world.sleep(float(more[0]), True)
-    machine.judge.slept(True)
+    machine.judge.slept(float(more[0]))
 
 
 def _jump(machine: Machine, more: tuple[str, ...]) -> None:
     machine.world.sleep(float(more[0]), False)
-    machine.judge.slept(False, float(more[0]))
+    machine.judge.jumped(float(more[0]))
 
 
 def _set(machine: Machine, more: tuple[str, ...]) -> None:

@@ -6,7 +6,7 @@ from typing import TYPE_CHECKING
 from simulation.air import Mark
 from simulation.clients import Clients
 from simulation.kept import Kept
-from simulation.world import World
+from simulation.world import SEEN, World
 
 if TYPE_CHECKING:
     from simulation.machine import Machine
@@ -54,6 +54,7 @@ class Judge:
         self.started_at = 0.0  # when the supervisor was last started
         self.woke_at = self.jumped_at = -1e9
         self.is_shown = False  # the last of these, by the real-time clock
+        self.unseen = 0.0  # sleeps since the supervisor's start that are too short to be seen (s)
         self.heard_at = -1e9  # when a run that serves read the first pulse after that
         self.spawns: list[float] = []
         self.is_over = False  # the end was asked for
@@ -99,18 +100,23 @@ class Judge:
         self.good_at.pop(radio, None)
         self.clients.plan()
 
-    def slept(self, is_counted: bool, seconds: float = 0.0) -> None:
-        """The host slept; where no clock of the kernel counts it, the real-time clock shows it to a
-        supervisor that has looked at it for a while."""
-        self.woke_at = self.world.now
-        if not is_counted:
-            self.jumped_at = self.world.now
-            self.is_shown = seconds >= SHOWN and self.world.now - self.started_at > LOOKED
+    def slept(self, seconds: float) -> None:
+        """The kernel counted a sleep. Short ones are seen once they are long enough together."""
+        self.unseen += seconds
+        if self.unseen >= SEEN:
+            self.unseen, self.woke_at = 0.0, self.world.now
+        self.taken()
+
+    def jumped(self, seconds: float) -> None:
+        """The host stood still, which no clock of the kernel counts. The real-time clock shows it
+        to a supervisor that has looked at it for a while."""
+        self.woke_at = self.jumped_at = self.world.now
+        self.is_shown = seconds >= SHOWN and self.world.now - self.started_at > LOOKED
         self.taken()
 
     def started(self) -> None:
         """The supervisor begins. What the disk may not have had is no longer at hand."""
-        self.started_at = self.world.now
+        self.started_at, self.unseen = self.world.now, 0.0
         if self.world.now - self.trouble_at < 900.0:
             self.taken()
         self.clients.plan()
