@@ -63,7 +63,7 @@ class SimHost(HostLinks):
         if seconds > TURN:
             self.judge.found("the loop waits too long", f"{seconds:.3f} s")
         self._count()
-        world.run_to(max(world.now + LEAST, min(world.late, world.now + 60.0)))
+        self.machine.run_to(max(world.now + LEAST, min(world.late, world.now + 60.0)))
         until = world.now + max(0.0, seconds - LEAST)
         if seconds > SHORT and world.next_due() > world.now + SHORT:
             until = max(until, world.now + min(PASSED_OVER, self.machine.calm()))

@@ -94,6 +94,13 @@ class Machine:
             return SOME
         return max(SOME, ahead - CALM)
 
+    def run_to(self, when: float) -> None:
+        """Lets time pass to a moment. The judge looks at each change."""
+        while self.world.next_due() <= when:
+            self.world.step()
+            self.judge.look()
+        self.world.run_to(when)
+
     # The files that the operator writes
 
     def make_settings(self) -> Settings:

@@ -100,18 +100,11 @@ class Play:
                 self._live()
                 if self.machine.given_up:
                     return self
-                self._pass(min(self.last, self.world.now + AGAIN))
+                self.machine.run_to(min(self.last, self.world.now + AGAIN))
         finally:
             keeper.removeHandler(handler)
         self._after()
         return self
-
-    def _pass(self, until: float) -> None:
-        """Time in which no supervisor runs."""
-        while self.world.next_due() <= until:
-            self.world.step()
-            self.judge.look()
-        self.world.run_to(until)
 
     def _live(self) -> None:
         """One life of the supervisor's process."""
@@ -148,7 +141,7 @@ class Play:
 
     def _after(self) -> None:
         """What is left once all has ended."""
-        self._pass(self.world.now + 5.0)
+        self.machine.run_to(self.world.now + 5.0)
         alive = [one for one in self.machine.processes if one.alive]
         if alive:
             self.judge.found("processes are left", str([one.words[:2] for one in alive]))
