@@ -74,13 +74,12 @@ class Service:
     def awaits(self) -> list[int]:
         """The descriptors to wait for."""
         runs = [one for one in (self.serving, self.next, *self.ending) if one]
-        looks = self.looked_at.awaits() if self.looked_at else []
-        return [run.child.ended for run in runs] + self.watch.awaits() + looks
+        return [run.child.ended for run in runs] + (self.looked_at or self.watch).awaits()
 
     def wakes(self) -> float:
         """When something is to be done at the latest (monotonic s)."""
-        serving = self.watch.due() if self.serving else float("inf")
-        return min(serving, self.looked_at.due()) if self.looked_at else serving
+        asks = self.looked_at or (self.watch if self.serving else None)
+        return asks.due() if asks else float("inf")
 
     def heard(self, feed: Feed, heard: Sequence[Heard]) -> None:
         """Pulses of a radio: both runs get them."""
@@ -99,12 +98,13 @@ class Service:
         for run in (self.serving, self.next):
             if run:
                 run.push()
+        if self.looked_at:  # meanwhile both runs answer on the same links, which aren't asked
+            self._look(self.looked_at, readable, now)
+            return
         if self.serving:
             self.watch.turn(readable, now)
             self._note_time(self.serving, self.watch.has_time(), now)
-        if self.looked_at:
-            self._look(self.looked_at, readable, now)
-        elif self.settings and not self.is_stopping and (cause := self._why(self.settings, now)):
+        if self.settings and not self.is_stopping and (cause := self._why(self.settings, now)):
             self._try(self.settings, cause, now)
 
     # The run that stands by
@@ -155,10 +155,12 @@ class Service:
         run = self.serving
         if run is None:
             return self.cause
-        if self.watch.is_deaf() or run.is_broken():
+        if self.watch.is_deaf():
             return "silent" if now >= self.silences.until else ""
         if now < max(self.refusals.until, self.silences.until):
             return ""
+        if run.is_broken():
+            return "silent"
         if self.wants_reload:
             return "reload"
         cycle, lasts = settings.cycle, USED * HEARINGS / self.rate if self.rate else float("inf")
@@ -187,6 +189,7 @@ class Service:
         run.begin(cause)
         port = run.probe or next(iter(settings.links), 0)
         self.went = now
+        self.watch.close()
         self.looked_at = Watch(self.host, [Link(port)] if port else [], self.addresses, EVERY)
 
     def _look(self, watch: Watch, readable: set[int], now: float) -> None:

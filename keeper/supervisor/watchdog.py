@@ -56,7 +56,8 @@ class Watch:
     patience: float = 1.0
     deaf_at: float = -CALM
     changed: bool = False  # an answer differs from the one before
-    dropped: list[tuple[float, int]] = field(default_factory=list)  # in the last second
+    # In the last second, or since the last turn where that is longer ago.
+    dropped: list[tuple[float, int]] = field(default_factory=list)
 
     def awaits(self) -> list[int]:
         """The descriptors to wait for."""
@@ -79,7 +80,7 @@ class Watch:
                 self._is_silent(link, now)  # it is asked again at once
             if link.client < 0 and now >= link.due:
                 self._ask(link, now)
-        self.dropped = [one for one in self.dropped if now - one[0] < 1.0]
+        self.dropped = [one for one in self.dropped if now - one[0] < 1.0] or self.dropped[-1:]
         self.dropped.append((now, sum(link.dropped for link in self.links)))
 
     def _wait(self, link: Link) -> float:
