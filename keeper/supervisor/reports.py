@@ -46,6 +46,15 @@ class Reports:
         self.note = disk.written(os.path.join(folder, FACTS))
         self.ends: float | None = None
 
+    def paused_before(self) -> float:
+        """When the host was paused, as the keeper before has told it (Unix s), 0.0 where it wasn't:
+        what was received before that isn't read back."""
+        try:
+            told = json.loads(disk.read_all(self.host, os.path.join(self.folder, FACTS), PENDING))
+            return float(told["paused"])
+        except (OSError, ValueError, TypeError, KeyError):
+            return 0.0
+
     def awaits(self) -> list[int]:
         return [self.child.ended] if self.child else []
 

@@ -32,7 +32,6 @@ LAST = 10.0  # within which the disk has to take what is left at the end (s)
 EVENTS = 16  # events that are told again to a reporter that begins
 PAUSES = 1.0, 30.0  # before a port is tried again (s)
 ANY = "0.0.0.0"
-PAUSED = "paused"  # in the runtime folder: when the host was last paused (Unix s)
 
 log = logging.getLogger(__name__)
 
@@ -46,7 +45,8 @@ class Supervisor:
         self.status = DONE
         self.began = host.boottime()
         self.clocks, self.pauses = clocks.Clocks(host), Pauses(host)
-        self.boot = self.counter = self.paused = ""
+        self.boot = self.counter = ""
+        self.paused = 0.0  # when the host was last paused (Unix s)
         self.feeds: list[Feed] = []
         self.logs: dict[Feed, PulseLog] = {}
         self.closing: list[Task] = []  # logs that are given back
@@ -71,8 +71,7 @@ class Supervisor:
             self.host.make_folder(folder)
         self.lock = lock.take(self.host, self.settings.folder)
         self.boot = self.host.boot()
-        with contextlib.suppress(OSError):
-            self.paused = disk.read_all(self.host, self._paused(), 64).decode("ascii", "replace")
+        self.paused = self.reports.paused_before()
         self.counter = self._counter()
         self.links = {self.host.port_of(one): one for one in self.host.handed_over()}
         self.archive.due = self.host.monotonic() + LEFT
@@ -138,12 +137,10 @@ class Supervisor:
             log.warning("the host slept for %.2f s; a new run begins, without what was received "
                         "before", span)
         elif span := self.pauses.look():
-            self.paused = f"{self.host.realtime():.1f}"
+            self.paused = self.host.realtime()
             self._forget("paused")
             log.warning("the host stood still for %.1f s, as its real-time clock shows; a new run "
                         "begins, without what was received before", span)
-            # A keeper that is started again must not read back what was received before.
-            disk.put(self.host, self._paused(), self.paused.encode(), sync=False)
         step = self.clocks.step()
         if step:
             log.warning("the host's clock was set %s by %.0f s; clients' time is the radios' and "
@@ -151,10 +148,7 @@ class Supervisor:
 
     def _counter(self) -> str:
         """What tells the counter since the last sleep and pause from every other one."""
-        return f"{clocks.counter(self.host, self.boot)} {self.paused}".rstrip()
-
-    def _paused(self) -> str:
-        return os.path.join(self.settings.runtime, PAUSED)
+        return f"{clocks.counter(self.host, self.boot)} {self.paused:.1f}"
 
     def _forget(self, cause: str) -> None:
         """The counter stood still: what was received before says nothing of now."""
@@ -162,6 +156,7 @@ class Supervisor:
         for feed in self.logs:  # at the end they are given back already
             feed.wake()
         self.counter = self._counter()
+        self.service.watch.changed = True  # so that the next keeper knows of it
         for feed in self.logs:
             self.closing.append(self.logs[feed].close())
             self.logs[feed] = self._log(feed)
@@ -291,7 +286,7 @@ class Supervisor:
                  *(one.note.text for one in self.logs.values()),
                  self.refused and f"not reloaded: {self.refused}"]
         facts = facts_of(self.host, self.settings, self.service, self.feeds, self.began) | {
-            "notes": [one for one in notes if one], "events": self.events,
+            "notes": [one for one in notes if one], "events": self.events, "paused": self.paused,
             "reloads": self.reloads, "refused": self.refused}
         # One that was stopped hasn't died.
         return facts if self.stopping is None else facts | {"pid": 0}
