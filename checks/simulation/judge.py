@@ -17,6 +17,7 @@ WHOLE = 380  # pulses in a row after which the time can be had: four minutes tha
 LASTS = 500.0  # for so long after that the time can be had without new ones (s)
 STARTS = 90  # processes that are started within a minute at most
 SHOWN, LOOKED = 0.3, 2.0  # a sleep shown by the real-time clock, to who looked at it so long (s)
+ENDED = 4.0  # a supervisor that is started sooner after a sleep is told nothing of it (s)
 MOST = 2  # findings of a rule that are kept
 
 
@@ -117,6 +118,8 @@ class Judge:
     def started(self) -> None:
         """The supervisor begins. What the disk may not have had is no longer at hand."""
         self.started_at, self.unseen = self.world.now, 0.0
+        # The one before may have ended before it was certain.
+        self.is_shown = self.is_shown and self.world.now - self.jumped_at > ENDED
         if self.world.now - self.trouble_at < 900.0:
             self.taken()
         self.clients.plan()
