@@ -10,6 +10,7 @@ WRONG = 0.02  # an answer is wrong from here on (s); a sleep of half of it isn't
 AWAKE = 0.1  # within which wrong answers end after a sleep (s)
 PAUSED = 2.5  # the same after a sleep that the real-time clock alone shows (s)
 JUMPED = 130.0  # after one that no clock shows: by a whole minute the program sees it (s)
+GAP = 7.0  # between pulses of a minute that is whole, at most, as a run reads them (s)
 AT_ONCE = 0.05  # without a fault nothing is without the time for longer (s)
 FAR = 1e9
 ONE, MORE = 2.0, 60.0  # after one fault, and after up to ten in a row (s)
@@ -101,8 +102,8 @@ class Clients:
             if judge.jumped_at == judge.woke_at and judge.is_shown:
                 ends = judge.woke_at + PAUSED
             elif judge.jumped_at == judge.woke_at:
-                if judge.heard_at < judge.jumped_at:
-                    return None  # nothing has come since that could say so
+                if judge.heard_at < judge.jumped_at or self.world.now - judge.fed_at > GAP:
+                    return None  # nothing comes that could say so
                 ends = judge.heard_at + JUMPED
             return max(ends, self.world.late)
         base = self._base()

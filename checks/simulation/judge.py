@@ -4,7 +4,7 @@ from dataclasses import dataclass
 from typing import TYPE_CHECKING
 
 from simulation.air import Mark
-from simulation.clients import Clients
+from simulation.clients import GAP, Clients
 from simulation.kept import Kept
 from simulation.world import SEEN, World
 
@@ -56,7 +56,8 @@ class Judge:
         self.woke_at = self.jumped_at = -1e9
         self.is_shown = False  # the last of these, by the real-time clock
         self.unseen = 0.0  # sleeps since the supervisor's start that are too short to be seen (s)
-        self.heard_at = -1e9  # when a run that serves read the first pulse after that
+        # Since when the run that serves reads pulses that came after that, and the last of them.
+        self.heard_at = self.fed_at = -1e9
         self.spawns: list[float] = []
         self.is_over = False  # the end was asked for
         self.lasts = 0.0  # until when some fault is in force
@@ -168,9 +169,11 @@ class Judge:
 
     def fed(self, run: "Run", feed: "Feed", mark: Mark, start: int) -> None:
         """A run reads a pulse."""
-        if run.served and self.heard_at < self.jumped_at < mark.at:
-            self.heard_at = self.world.now
-            self.clients.plan()
+        if run.served and self.jumped_at < mark.at:
+            if self.heard_at < self.jumped_at or self.world.now - self.fed_at > GAP:
+                self.heard_at = self.world.now
+                self.clients.plan()
+            self.fed_at = self.world.now
         if run.epoch == self.world.epoch and mark.epoch != run.epoch:
             self.found("a pulse of another counter reaches a run",
                        f"{run}, of epoch {run.epoch}: pulse of epoch {mark.epoch}")
