@@ -43,7 +43,7 @@ class Run:
     probe = 0
 
     def __init__(self, host: Host, settings: Settings, feeds: Sequence[Feed],
-                 links: Sequence[int], number: int, folder: str) -> None:
+                 links: Sequence[int], number: int) -> None:
         self.host, self.settings, self.feeds, self.number = host, settings, feeds, number
         self.started = self.looked = host.monotonic()
         self.unfed = 0.0  # for how long it has read no pulse (s)
@@ -52,7 +52,7 @@ class Run:
         self.signals: dict[str, int] = {}  # `ask`, `go` and `end`: what hasn't been told yet
         theirs: list[int] = []
         try:
-            self.child = self._start(folder, list(links), theirs)
+            self.child = self._start(list(links), theirs)
         except OSError:
             self._close()
             self.remove_out()
@@ -63,7 +63,7 @@ class Run:
         for feed in feeds:
             self.give(feed, feed.last_minutes())
 
-    def _start(self, folder: str, links: list[int], theirs: list[int]) -> Child:
+    def _start(self, links: list[int], theirs: list[int]) -> Child:
         """Starts the process. `theirs` gets our copies of its descriptors."""
         host = self.host
 
@@ -91,7 +91,7 @@ class Run:
             raise OSError(errno.ENOSPC, "a pipe takes no station", "the station")
         given = sorted({*theirs, *links})
         self.errors = handed(host.inlet())
-        out = os.path.join(folder, name_of(host.realtime(), self.number) + OUT)
+        out = os.path.join(self.settings.runtime, name_of(host.realtime(), self.number) + OUT)
         theirs.append(host.open(out, os.O_RDWR | os.O_CREAT | os.O_EXCL | os.O_NOFOLLOW))
         self.out = out
         program = [self.settings.program, "serve", "--station", f"/dev/fd/{place}"]

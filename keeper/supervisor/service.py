@@ -34,13 +34,13 @@ log = logging.getLogger(__name__)
 
 
 class Service:
-    """`use` before all else. While `looked_at` is there the run that stands by has been told to
-    serve, since `went` (monotonic s), and is asked by it. `cause` is why the next run is to serve
-    where none does, `last` the journal before."""
+    """Runs are started from `use` on, until `stop`: `is_open` meanwhile. While `looked_at` is there
+    the run that stands by has been told to serve, and is asked by it. `cause` is why the next run
+    is to serve where none does, `last` the journal before."""
 
-    def __init__(self, host: Host, folder: str, archive: Archive) -> None:
-        self.host, self.folder, self.archive = host, folder, archive
-        self.settings: Settings | None = None
+    def __init__(self, host: Host, settings: Settings, archive: Archive) -> None:
+        self.host, self.settings, self.archive = host, settings, archive
+        self.is_open = False
         self.feeds: Sequence[Feed] = ()
         self.links: dict[int, int] = {}
         self.addresses: list[str] = []
@@ -49,12 +49,10 @@ class Service:
         self.ending: list[Run] = []
         self.watch = Watch(host, [], [])
         self.looked_at: Watch | None = None
-        self.went = self.due = 0.0  # `due`: when the next run is started (monotonic s)
         self.number = 0
         self.cause = "start"
-        self.wants_reload = self.is_stopping = False
-        self.starts = Pause(*PAUSES)
-        self.refusals, self.silences = Pause(*REFUSED), Pause(*PAUSES)
+        self.wants_reload = False
+        self.starts, self.refusals = Pause(*PAUSES), Pause(*REFUSED)
         self.rate = 0.0  # datagrams a second of the busiest link, in the last journal
         self.knows_crowd = False  # whether that journal is of a crowd alone
         self.requests: dict[int, tuple[int, float]] = {}  # of clients, by port: all, and a second
@@ -67,9 +65,8 @@ class Service:
         """From now on runs are of these settings, and have these sockets by their ports."""
         self.wants_reload = self.serving is not None
         self._drop_next()
-        self.settings, self.feeds, self.links = settings, feeds, links
+        self.settings, self.feeds, self.links, self.is_open = settings, feeds, links, True
         self.addresses = own_addresses(settings.denied, settings.gap)
-        self.due = 0.0
 
     def awaits(self) -> list[int]:
         """The descriptors to wait for."""
@@ -93,41 +90,41 @@ class Service:
         self._step_ending(now)
         if self.serving and self.serving.status() is not None:
             self._lose("died", now)
-        if self.settings and not self.is_stopping:
-            self._step_next(self.settings, now)
+        if self.is_open:
+            self._step_next(now)
         for run in (self.serving, self.next):
             if run:
                 run.push()
-        if self.looked_at:  # meanwhile both runs answer on the same links, which aren't asked
-            self._look(self.looked_at, readable, now)
-            return
-        if self.serving:
+        if self.next and self.looked_at:
+            # Meanwhile both runs answer on the same links, which aren't asked.
+            self._look(self.next, self.looked_at, readable, now)
+        elif self.serving:
             self.watch.turn(readable, now)
-            self._note_time(self.serving, self.watch.has_time(), now)
-        if self.settings and not self.is_stopping and (cause := self._why(self.settings, now)):
-            self._try(self.settings, cause, now)
+        if self.is_open and not self.looked_at and (cause := self._why(now)):
+            self._try(cause, now)
+        self._note_time()
 
     # The run that stands by
 
-    def _step_next(self, settings: Settings, now: float) -> None:
+    def _step_next(self, now: float) -> None:
         if self.next and not self.looked_at:
             said = f"run {self.next.number}, which stood by,"
             if self.next.status() is not None:
                 self._fail(f"{said} {self.next.how()}", now)
-            elif self.next.is_broken() or self.next.hangs(now):
+            elif self.next.hangs(now):
                 self._fail(f"{said} takes no pulses", now)
             elif now - self.next.started > SHORT:
                 self.starts.reset()
         # Where nobody serves the first failures are no reason to wait.
         rests = now < self.starts.until and (self.serving or self.starts.span > PATIENT)
-        if not self.next and now >= self.due and not rests:
-            self._start(settings, now)
+        if not self.next and not rests:
+            self._start(now)
 
-    def _start(self, settings: Settings, now: float) -> None:
+    def _start(self, now: float) -> None:
         self.number += 1
-        links = [self.links[port] for port in settings.links]
+        links = [self.links[port] for port in self.settings.links]
         try:
-            self.next = Run(self.host, settings, self.feeds, links, self.number, self.folder)
+            self.next = Run(self.host, self.settings, self.feeds, links, self.number)
             self.lacking.take("")
         except OSError as error:
             self.starts.begin(now)
@@ -150,35 +147,34 @@ class Service:
 
     # Changes
 
-    def _why(self, settings: Settings, now: float) -> str:
+    def _why(self, now: float) -> str:
         """Why another run is to serve; nothing where this one goes on."""
-        run = self.serving
+        run, cycle, pace = self.serving, self.settings.cycle, self.settings.pace
         if run is None:
             return self.cause
         if self.watch.is_deaf():
-            return "silent" if now >= self.silences.until else ""
-        if now < max(self.refusals.until, self.silences.until):
+            return "silent"
+        if now < self.refusals.until:
             return ""
         if run.is_broken():
             return "silent"
         if self.wants_reload:
             return "reload"
-        cycle, lasts = settings.cycle, USED * HEARINGS / self.rate if self.rate else float("inf")
-        if settings.servers and settings.pace:
-            cycle = min(cycle, USED * POLLS * settings.pace)
+        lasts = USED * HEARINGS / self.rate if self.rate else float("inf")
+        if self.settings.servers and pace:
+            cycle = min(cycle, USED * POLLS * pace)
         if self.watch.is_crowded() and not self.knows_crowd:
             lasts = min(lasts, CROWDED)
         if run.served_for() >= min(lasts, cycle):
             return "busy" if lasts < cycle else "cycle"
         return ""
 
-    def _try(self, settings: Settings, cause: str, now: float) -> None:
+    def _try(self, cause: str, now: float) -> None:
         """Has the next run serve, where there is one and it has read what it was given."""
         run = self.next
         if run is None:
-            self.due = min(self.due, now)
             return
-        asked = ASKED.get(cause, 0.0) if settings.servers else 0.0
+        asked = ASKED.get(cause, 0.0) if self.settings.servers else 0.0
         if asked:
             run.tell("ask")
             if now - run.asks_since < asked:
@@ -187,31 +183,26 @@ class Service:
             return
         run.is_crowded = self.watch.is_crowded()
         run.begin(cause)
-        port = run.probe or next(iter(settings.links), 0)
-        self.went = now
+        port = run.probe or next(iter(self.settings.links), 0)
         self.watch.close()
         self.looked_at = Watch(self.host, [Link(port)] if port else [], self.addresses, EVERY)
 
-    def _look(self, watch: Watch, readable: set[int], now: float) -> None:
+    def _look(self, run: Run, watch: Watch, readable: set[int], now: float) -> None:
         """Looks at the run that was told to serve: whether it does, and has the time."""
-        run = self.next
-        if run is None or run.status() is not None:
-            if run:
-                self._fail(f"run {run.number} doesn't begin: it {run.how()}", now)
+        if run.status() is not None:
+            self._fail(f"run {run.number} doesn't begin: it {run.how()}", now)
             return
         watch.turn(readable, now)
-        has_time = self.serving is not None and self.watch.has_time() and not self.watch.is_deaf()
+        before = self.serving if self.watch.has_time() and not self.watch.is_deaf() else None
         link = next(iter(watch.links), None)
-        look = min(max(LOOK[0], 2 * self.silences.span), LOOK[1])  # longer where one didn't answer
-        if link is None or link.has_time() or link.kissed or (link.answered_at and not has_time):
+        look = min(max(LOOK[0], 2 * self.starts.span), LOOK[1])  # longer where one was no good
+        if link is None or link.has_time() or link.kissed or (link.answered_at and not before):
             self._accept(run, watch, now)
-        elif link.answered_at and link.asked > ANSWERS:
+        elif before and link.answered_at and link.asked > ANSWERS:
             log.info("run %d goes on: the next one would not have the time yet; it is tried again "
-                     "in %.0f s", self.serving.number if self.serving else 0,
-                     self.refusals.begin(now))
+                     "in %.0f s", before.number, self.refusals.begin(now))
             self._drop_next()
-        elif not link.answered_at and now - self.went > look:
-            self.silences.begin(now)
+        elif not link.answered_at and run.served_for() > look:
             self._fail(f"run {run.number} doesn't answer", now)
 
     def _accept(self, run: Run, watch: Watch, now: float) -> None:
@@ -238,20 +229,18 @@ class Service:
         if run.note and run.note != self.note:
             log.warning("%s", run.note)
         self.note = run.note
-        self.due = now + STANDBY
         self.refusals.reset()
-        self.silences.reset()
         if run.cause != "died":
             self.starts.reset()
+        self.starts.until = max(self.starts.until, now + STANDBY)
         log.info("run %d (%s) serves", run.number, run.cause)
-        self._note_time(run, any(link.has_time() for link in watch.links), now)
 
-    def _note_time(self, run: Run, has_time: bool, now: float) -> None:
+    def _note_time(self) -> None:
         """Says once that clients of a run get the time."""
-        if has_time and not run.had_time:
+        run = self.serving
+        if run and not run.had_time and self.watch.has_time():
             run.had_time = True
-            span = (now - (run.began or now)) * 1000
-            log.info("run %d has the time after %.0f ms", run.number, span)
+            log.info("run %d has the time after %.0f ms", run.number, run.served_for() * 1000)
 
     # Ends
 
@@ -269,7 +258,6 @@ class Service:
         if run is None:
             return
         self._end(run, why)
-        self.due = now
         if why == "died" and run.served_for() < SHORT:
             self.starts.begin(now)
 
@@ -310,11 +298,10 @@ class Service:
 
     def stop(self) -> None:
         """Ends the run that serves; a second call ends it at once."""
-        if self.is_stopping:
-            for run in self.ending:
-                log.warning("run %d is ended at once: its journal is lost", run.number)
-                run.end_at_once()
-        self.is_stopping = True
+        for run in [] if self.is_open else self.ending:
+            log.warning("run %d is ended at once: its journal is lost", run.number)
+            run.end_at_once()
+        self.is_open = False
         self._drop_next()
         if self.serving:
             self._end(self.serving, "stop")

@@ -54,7 +54,7 @@ class Supervisor:
         self.links: dict[int, int] = {}  # sockets by their ports
         self.ports, self.is_bound = clocks.Pause(*PAUSES), False
         self.archive = Archive(host, os.path.join(settings.folder, "journals"))
-        self.service = Service(host, settings.runtime, self.archive)
+        self.service = Service(host, settings, self.archive)
         self.reports = Reports(host, settings.runtime, self._facts)
         self.judging: Future[Settings] | None = None
         self.refused = ""  # why a file was refused at the last reload
