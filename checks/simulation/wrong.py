@@ -62,7 +62,7 @@ WRONG = (
     bug("sleeps below 10 s aren't seen", "clocks", "AWAKE = 0.01", "AWAKE = 10.0",
         "430 sleep 0.6"),
     bug("a log's name is the same after a sleep", "clocks",
-        "{round(min(spans, default=0.0) * 100)}", "0", "430 sleep 40;440 kill"),
+        "{round(slept(host) * 100)}", "0", "430 sleep 40;440 kill"),
     bug("a log's name is without its source", "clocks", "sha256(f\"{counter} {source}\"",
         "sha256(f\"{counter}\"", "430 hup-source;440 kill"),
     bug("sources go on over a sleep", "supervisor", "feed.wake()", "pass", "430 sleep 40"),

@@ -6,24 +6,20 @@ from keeper.supervisor.host import Host
 
 AWAKE = 0.01  # sleeps that are shorter together are none (s)
 LEAST = 2.0  # what the clock is set by less than this moves nothing (s); a slew is none
-AT_ONCE = 0.001  # clocks that are read within this are read at once (s)
-TRIES = 10
+READINGS = 5
 
 
-def slept(host: Host) -> float | None:
+def slept(host: Host) -> float:
     """For how long the host has slept since its boot (s): its monotonic clock, by which all count,
-    stood still meanwhile. None where this process was interrupted between the clocks."""
-    before = host.monotonic()
-    boot = host.boottime()
-    after = host.monotonic()
-    return boot - after if after - before < AT_ONCE else None
+    stood still meanwhile. A reading is too small where this process was interrupted between the
+    clocks, so the greatest of some counts."""
+    return max(host.boottime() - host.monotonic() for _ in range(READINGS))
 
 
 def counter(host: Host, boot: str) -> str:
     """What tells this boot's counter, since the host's last sleep, from every other one. The boot
     is asked for once, since the host may refuse it."""
-    spans = [span for _ in range(TRIES) if (span := slept(host)) is not None]
-    return f"{boot} {round(min(spans, default=0.0) * 100)}"
+    return f"{boot} {round(slept(host) * 100)}"
 
 
 def tag_of(counter: str, source: str) -> str:
@@ -44,11 +40,11 @@ class Clocks:
     def sleep(self) -> float:
         """For how long the host slept (s), once that is long enough, as short sleeps add up; else
         0.0."""
-        before, now = self.slept, slept(self.host)
-        if now is None or (before is not None and now - before < AWAKE):
+        span = slept(self.host) - self.slept
+        if span < AWAKE:
             return 0.0
-        self.slept = now
-        return now - before if before is not None else 0.0
+        self.slept += span
+        return span
 
     def step(self) -> float:
         """By how much the clock was set forward since the last call (s), 0.0 where it wasn't."""

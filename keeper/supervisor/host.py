@@ -70,6 +70,7 @@ class Host:
 
     def __init__(self) -> None:
         self.children: dict[int, subprocess.Popen[bytes]] = {}
+        self.released: list[subprocess.Popen[bytes]] = []
         self.came: list[int] = []
         self.woken, self.wakes = os.pipe2(os.O_NONBLOCK | os.O_CLOEXEC)
         self.life, self.alive = os.pipe2(os.O_CLOEXEC)  # `life` has an end once we have died
@@ -199,11 +200,9 @@ class Host:
         It must be the last call."""
         self.kill(child, signal.SIGKILL)
         os.close(child.ended)
-        process = self.children.pop(child.pid)
-        if process.poll() is None:
-            # Killed, and not gone yet, as where it waits for a disk: who collects it mustn't wait.
-            with contextlib.suppress(RuntimeError):  # no thread now: it is collected at the end
-                threading.Thread(target=process.wait, daemon=True).start()
+        # One that isn't gone yet, as where it waits for a disk, is collected at a later call.
+        self.released = [one for one in (*self.released, self.children.pop(child.pid))
+                         if one.poll() is None]
 
     # Descriptors and pipes
 

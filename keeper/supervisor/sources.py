@@ -4,7 +4,7 @@ import os
 import signal
 import stat
 
-from keeper.supervisor.clocks import AWAKE
+from keeper.supervisor.clocks import AWAKE, slept
 from keeper.supervisor.host import Child, Host
 from keeper.errors import ended
 
@@ -204,8 +204,7 @@ def live_from(host: Host, tail: bytes, is_cut: bool, age: float) -> int:
     if last < 0:
         return begin
     late = host.monotonic() - age - last / 1e6
-    has_slept = host.boottime() - host.monotonic() >= AWAKE
-    return live if EARLY <= late <= LATE and not has_slept else len(tail)
+    return live if EARLY <= late <= LATE and slept(host) < AWAKE else len(tail)
 
 
 def source_of(host: Host, kind: str, value: str) -> Source:

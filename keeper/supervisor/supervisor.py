@@ -132,17 +132,12 @@ class Supervisor:
 
     def _look_at_clocks(self) -> None:
         if span := self.clocks.sleep():
-            self._forget("slept")
+            self._forget("slept", f"slept for {span:.2f} s")
             self.pauses.forget()
-            log.warning("the host slept for %.2f s; a new run begins, without what was received "
-                        "before", span)
         elif span := self.pauses.look():
             self.paused = self.host.realtime()
-            self._forget("paused")
-            log.warning("the host stood still for %.1f s, as its real-time clock shows; a new run "
-                        "begins, without what was received before", span)
-        step = self.clocks.step()
-        if step:
+            self._forget("paused", f"stood still for {span:.1f} s, as its real-time clock shows")
+        if step := self.clocks.step():
             log.warning("the host's clock was set %s by %.0f s; clients' time is the radios' and "
                         "stays", "forward" if step > 0 else "back", abs(step))
 
@@ -150,9 +145,10 @@ class Supervisor:
         """What tells the counter since the last sleep and pause from every other one."""
         return f"{clocks.counter(self.host, self.boot)} {self.paused:.1f}"
 
-    def _forget(self, cause: str) -> None:
+    def _forget(self, cause: str, said: str) -> None:
         """The counter stood still: what was received before says nothing of now."""
         self.service.sleep(cause)  # at first: each answer is as wrong as that was long
+        log.warning("the host %s; a new run begins, without what was received before", said)
         for feed in self.logs:  # at the end they are given back already
             feed.wake()
         self.counter = self._counter()
