@@ -9,6 +9,7 @@ from dataclasses import dataclass
 from keeper.config import Radio
 from keeper.supervisor.clocks import Pause
 from keeper.supervisor.host import Host
+from keeper.supervisor.logs import PulseLog
 from keeper.supervisor.pulses import HISTORY, OLDEST, Lines, Pulse
 from keeper.supervisor.sources import Ended, source_of
 from keeper.supervisor.steady import steady
@@ -30,15 +31,15 @@ class Heard:
 
 
 class Feed:
-    """`heard` gets this feed and its new pulses. `state` is a word of the pages: `starting`,
-    `running`, `stalled` (it is silent) or `waiting` (it ended, and is begun again).
+    """`heard` gets this feed and its new pulses, `log` keeps them. `state` is a word of the pages:
+    `starting`, `running`, `stalled` (it is silent) or `waiting` (it ended, and is begun again).
 
     What steadies lives as long as the feed, and not as its source: the line of a receiver that is
     started again still holds, since the host's counter went on."""
 
-    def __init__(self, host: Host, number: int, radio: Radio,
+    def __init__(self, host: Host, number: int, radio: Radio, log: PulseLog,
                  heard: "Callable[[Feed, list[Heard]], None]") -> None:
-        self.host, self.number, self.radio, self.heard = host, number, radio, heard
+        self.host, self.number, self.radio, self.log, self.heard = host, number, radio, log, heard
         self.source = source_of(host, radio.kind, radio.value)
         self.lines = Lines()
         self.steady = steady().Steady() if radio.steady else None

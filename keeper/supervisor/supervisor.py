@@ -13,7 +13,7 @@ from concurrent.futures import Future
 from typing import Any
 
 from keeper import lock
-from keeper.config import Settings
+from keeper.config import Radio, Settings
 from keeper.errors import DONE, NOT_WELL
 from keeper.supervisor import clocks, disk
 from keeper.supervisor.host import Host, Task
@@ -48,7 +48,6 @@ class Supervisor:
         self.boot = self.counter = ""
         self.paused = 0.0  # when the host was last paused (Unix s)
         self.feeds: list[Feed] = []
-        self.logs: dict[Feed, PulseLog] = {}
         self.closing: list[Task] = []  # logs that are given back
         self.lock = -1
         self.links: dict[int, int] = {}  # sockets by their ports
@@ -80,24 +79,23 @@ class Supervisor:
                 self.archive.add(os.path.join(self.settings.runtime, name), [])
         for place in range(len(self.settings.radios)):
             self.feeds.append(self._feed(place, self.settings))
-            self.feeds[-1].recall(self.logs[self.feeds[-1]].last_pulses())
+            self.feeds[-1].recall(self.feeds[-1].log.last_pulses())
         self.host.notify("READY=1")
 
     def _feed(self, place: int, settings: Settings) -> Feed:
         """A feed of the radio at this place."""
-        feed = Feed(self.host, place, settings.radios[place], self._heard)
-        self.logs[feed] = self._log(feed)
-        return feed
+        radio = settings.radios[place]
+        return Feed(self.host, place, radio, self._log(place, radio), self._heard)
 
-    def _log(self, feed: Feed) -> PulseLog:
+    def _log(self, place: int, radio: Radio) -> PulseLog:
         folder = os.path.join(self.settings.folder, "logs")
-        tag = clocks.tag_of(self.counter, f"{feed.radio.kind} {feed.radio.value}")
-        return PulseLog(self.host, folder, feed.number, feed.radio.plan, tag)
+        tag = clocks.tag_of(self.counter, f"{radio.kind} {radio.value}")
+        return PulseLog(self.host, folder, place, radio.plan, tag)
 
     def _heard(self, feed: Feed, heard: list[Heard]) -> None:
         """Pulses of a radio go to the runs first."""
         self.service.heard(feed, heard)
-        self.logs[feed].add([one.raw for one in heard])
+        feed.log.add([one.raw for one in heard])
         self.reports.heard(feed, heard)
 
     def turn(self) -> bool:
@@ -149,13 +147,13 @@ class Supervisor:
         """The counter stood still: what was received before says nothing of now."""
         self.service.sleep(cause)  # at first: each answer is as wrong as that was long
         log.warning("the host %s; a new run begins, without what was received before", said)
-        for feed in self.logs:  # at the end they are given back already
+        for feed in self.feeds:
             feed.wake()
         self.counter = self._counter()
         self.service.watch.changed = True  # so that the next keeper knows of it
-        for feed in self.logs:
-            self.closing.append(self.logs[feed].close())
-            self.logs[feed] = self._log(feed)
+        for feed in self.feeds if self.stopping is None else []:  # else its log is given back
+            self.closing.append(feed.log.close())
+            feed.log = self._log(feed.number, feed.radio)
 
     def _take_signals(self) -> None:
         for number in self.host.signals():
@@ -171,7 +169,7 @@ class Supervisor:
             self.stopping = self.host.monotonic()
             for feed in self.feeds:
                 feed.source.rest()
-                self.closing.append(self.logs.pop(feed).close())
+                self.closing.append(feed.log.close())
         self.service.stop()
 
     def _step_links(self) -> None:
@@ -235,12 +233,11 @@ class Supervisor:
             self._bind(settings)
             feeds = [self._feed_for(place, settings) for place in range(len(settings.radios))]
         except OSError as error:
-            self.logs = {feed: self.logs[feed] for feed in self.feeds}
             return error.strerror or str(error)
         for feed in self.feeds:
             if feed not in feeds:
                 feed.source.close()
-                self.closing.append(self.logs.pop(feed).close())
+                self.closing.append(feed.log.close())
         left = [port for port in self.links if port not in settings.links]
         self.service.retired += [self.links.pop(port) for port in left]
         self.settings, self.feeds, self.is_bound = settings, feeds, True
@@ -266,8 +263,8 @@ class Supervisor:
         now = self.host.monotonic()
         self.archive.turn(now)
         self.closing = [one for one in self.closing if not one.done()]
-        for pulse_log in self.logs.values():
-            pulse_log.turn(now)
+        for feed in self.feeds if self.stopping is None else []:
+            feed.log.turn(now)
 
     def _tell(self) -> None:
         now, interval = self.host.monotonic(), self.host.watchdog
@@ -279,7 +276,7 @@ class Supervisor:
 
     def _facts(self) -> dict[str, Any]:
         notes = [self.service.lacking.text, self.service.note, self.archive.note.text,
-                 *(one.note.text for one in self.logs.values()),
+                 *(feed.log.note.text for feed in self.feeds),
                  self.refused and f"not reloaded: {self.refused}"]
         facts = facts_of(self.host, self.settings, self.service, self.feeds, self.began) | {
             "notes": [one for one in notes if one], "events": self.events, "paused": self.paused,

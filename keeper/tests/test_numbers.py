@@ -8,6 +8,7 @@ import unittest
 from keeper.config import Radio
 from keeper.supervisor import sources
 from keeper.supervisor.clocks import Clocks, counter
+from keeper.supervisor.logs import PulseLog
 from keeper.supervisor.pulses import Lines, Pulse
 from keeper.supervisor.radios import Feed
 from keeper.supervisor.sources import Growing
@@ -87,7 +88,8 @@ class Boots(Made):
 class Feeds(Made):
     def feed(self, steady: bool = False) -> Feed:
         radio = Radio("file", str(self.folder / "x"), "r", 60, "dcf", 0.0, steady)
-        return Feed(self.host, 0, radio, lambda feed, heard: None)
+        log = PulseLog(self.host, str(self.folder), 0, "dcf", "b0070001")
+        return Feed(self.host, 0, radio, log, lambda feed, heard: None)
 
     def test_how_old_pulses_may_be_that_a_new_run_gets(self) -> None:
         feed, now = self.feed(), int(self.host.now * 1e6)

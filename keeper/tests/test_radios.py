@@ -11,6 +11,7 @@ import unittest
 from collections.abc import Callable
 
 from keeper.config import Radio
+from keeper.supervisor.logs import PulseLog
 from keeper.supervisor.pulses import OLDEST, Pulse
 from keeper.supervisor.radios import Feed, Heard
 from keeper.supervisor.host import Host
@@ -31,7 +32,8 @@ class Feeds(unittest.TestCase):
 
     def feed(self, command: str, stall: float = 60.0, steady: bool = False) -> Feed:
         radio = Radio("command", command, "dcf", stall, "dcf", 0.0, steady)
-        feed = Feed(self.host, 0, radio, lambda _, heard: self.heard.extend(heard))
+        log = PulseLog(self.host, str(self.folder), 0, "dcf", "b0070001")
+        feed = Feed(self.host, 0, radio, log, lambda _, heard: self.heard.extend(heard))
         self.addCleanup(feed.source.close)
         return feed
 
@@ -153,8 +155,9 @@ class Feeds(unittest.TestCase):
 
 class OfAHost(unittest.TestCase):
     def test_a_source_that_can_not_be_opened(self) -> None:
-        radio = Radio("file", "/nosuch", "", 60.0, "dcf", 0.0)
-        feed = Feed(Host(), 0, radio, lambda *_: None)
+        radio, host = Radio("file", "/nosuch", "", 60.0, "dcf", 0.0), Host()
+        log = PulseLog(host, "/nosuch", 0, "dcf", "b0070001")
+        feed = Feed(host, 0, radio, log, lambda *_: None)
         self.addCleanup(feed.source.close)
         with self.assertLogs("keeper") as said:
             feed.turn(set())
