@@ -66,7 +66,8 @@ class Pauses:
         if read is None:
             return 0.0
         if self.known is not None and self.new is not None:
-            self.new = self._or(self.new, read)
+            narrowed = self.new.narrowed(read)
+            self.new = narrowed if narrowed.least <= narrowed.most else read
             return self._judged(self.known, self.new)
         narrowed = self.known.narrowed(read) if self.known else read
         if narrowed.least <= narrowed.most:
@@ -83,11 +84,6 @@ class Pauses:
         if second is None or after - before > AT_ONCE:
             return None
         return Bounds(second - after, second + 1 - before, after)
-
-    def _or(self, bounds: Bounds, read: Bounds) -> Bounds:
-        """Bounds by one more reading; it begins anew where they don't fit."""
-        narrowed = bounds.narrowed(read)
-        return narrowed if narrowed.least <= narrowed.most else read
 
     def _judged(self, known: Bounds, new: Bounds) -> float:
         """How long a pause was whose jump led to these new bounds (s)."""

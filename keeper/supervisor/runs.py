@@ -134,13 +134,12 @@ class Run:
                 outlet.give(b"".join(one.given.line() for one in heard))
 
     def push(self) -> None:
-        """Gives what waits."""
         for outlet in self.outlets:
             outlet.push()
 
     def is_broken(self) -> bool:
         """Whether it doesn't take its pulses."""
-        return self.ended is None and any(outlet.is_broken for outlet in self.outlets)
+        return any(outlet.is_broken for outlet in self.outlets)
 
     def is_fed(self) -> bool:
         """Whether it has read all that it was given."""

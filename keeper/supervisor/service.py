@@ -69,7 +69,6 @@ class Service:
         self.addresses = own_addresses(settings.denied, settings.gap)
 
     def awaits(self) -> list[int]:
-        """The descriptors to wait for."""
         runs = [one for one in (self.serving, self.next, *self.ending) if one]
         return [run.child.ended for run in runs] + (self.looked_at or self.watch).awaits()
 
@@ -85,7 +84,6 @@ class Service:
                 run.give(feed, heard)
 
     def turn(self, readable: set[int]) -> None:
-        """Does what is due."""
         now = self.host.monotonic()
         self._step_ending(now)
         if self.serving and self.serving.status() is not None:
@@ -309,7 +307,6 @@ class Service:
         self.watch.close()
 
     def is_over(self) -> bool:
-        """Whether all runs have ended."""
         return not self.serving and not self.ending
 
     def close(self) -> None:

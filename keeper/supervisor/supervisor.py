@@ -51,7 +51,7 @@ class Supervisor:
         self.closing: list[Task] = []  # logs that are given back
         self.lock = -1
         self.links: dict[int, int] = {}  # sockets by their ports
-        self.ports, self.is_bound = clocks.Pause(*PAUSES), False
+        self.ports = clocks.Pause(*PAUSES)  # after a port was refused
         self.archive = Archive(host, os.path.join(settings.folder, "journals"))
         self.service = Service(host, settings, self.archive)
         self.reports = Reports(host, settings.runtime, self._facts)
@@ -105,13 +105,19 @@ class Supervisor:
         readable = self.host.wait(self._awaits(), max(LEAST, span))
         self._guarded(self._look_at_clocks)
         self._guarded(self._take_signals)
-        for feed in self.feeds:
-            if self.stopping is None:
-                feed.turn(readable)
+        for feed in self._live_feeds():
+            feed.turn(readable)
         self._guarded(lambda: self.service.turn(readable))
-        for part in (self._step_links, self._step_reload, self._step_disk, self._tell):
-            self._guarded(part)
+        if self.stopping is None:
+            self._guarded(self._step_links)
+            self._guarded(self._step_reload)
+        self._guarded(self._step_disk)
+        self._guarded(self._tell)
         return not self._is_over()
+
+    def _live_feeds(self) -> list[Feed]:
+        """Those whose sources and logs are open."""
+        return self.feeds if self.stopping is None else []
 
     def _guarded(self, part: Callable[[], None]) -> None:
         """What goes wrong in one part leaves the others alone; it is said once a minute."""
@@ -124,7 +130,7 @@ class Supervisor:
                 log.exception("in the loop: %r", error)
 
     def _awaits(self) -> list[int]:
-        sources = [feed.source.awaits for feed in self.feeds if self.stopping is None]
+        sources = [feed.source.awaits for feed in self._live_feeds()]
         own = [one for one in sources if one >= 0]
         return own + self.service.awaits() + self.reports.awaits()
 
@@ -147,11 +153,10 @@ class Supervisor:
         """The counter stood still: what was received before says nothing of now."""
         self.service.sleep(cause)  # at first: each answer is as wrong as that was long
         log.warning("the host %s; a new run begins, without what was received before", said)
-        for feed in self.feeds:
-            feed.wake()
+        self.service.watch.changed = True  # so that the next keeper is told of it
         self.counter = self._counter()
-        self.service.watch.changed = True  # so that the next keeper knows of it
-        for feed in self.feeds if self.stopping is None else []:  # else its log is given back
+        for feed in self._live_feeds():
+            feed.wake()
             self.closing.append(feed.log.close())
             feed.log = self._log(feed.number, feed.radio)
 
@@ -175,14 +180,13 @@ class Supervisor:
     def _step_links(self) -> None:
         """Binds what isn't bound yet, and then has the station served."""
         now = self.host.monotonic()
-        if self.is_bound or self.stopping is not None or now < self.ports.until:
+        if self.service.is_open or now < self.ports.until:
             return
         try:
             self._bind(self.settings)
         except OSError as error:
             log.error("%s; it is tried again in %.0f s", error.strerror, self.ports.begin(now))
             return
-        self.is_bound = True
         self.service.use(self.settings, self.feeds, self.links)
 
     def _bind(self, settings: Settings) -> None:
@@ -207,7 +211,7 @@ class Supervisor:
         """Takes what was judged; later where a run is about to serve, whose place it would
         take."""
         is_about = self.service.serving is None and self.service.next is not None
-        if not self.judging or not self.judging.done() or is_about or self.stopping is not None:
+        if not self.judging or not self.judging.done() or is_about:
             return
         task, self.judging = self.judging, None
         fault = task.exception()
@@ -218,8 +222,7 @@ class Supervisor:
         self.refused, self.reloads, self.service.watch.changed = why, self.reloads + 1, True
         if why:
             log.error("not reloaded: %s", why)
-            number = self.events[-1]["number"] + 1 if self.events else 1
-            self.events.append({"number": number, "event": "file-refused", "text": why,
+            self.events.append({"number": self.reloads, "event": "file-refused", "text": why,
                                 "at": self.host.realtime()})
             del self.events[:-EVENTS]
         self.host.notify("READY=1")
@@ -240,7 +243,7 @@ class Supervisor:
                 self.closing.append(feed.log.close())
         left = [port for port in self.links if port not in settings.links]
         self.service.retired += [self.links.pop(port) for port in left]
-        self.settings, self.feeds, self.is_bound = settings, feeds, True
+        self.settings, self.feeds = settings, feeds
         self.service.use(settings, feeds, self.links)
         log.info("both files were read anew")
         return ""
@@ -263,7 +266,7 @@ class Supervisor:
         now = self.host.monotonic()
         self.archive.turn(now)
         self.closing = [one for one in self.closing if not one.done()]
-        for feed in self.feeds if self.stopping is None else []:
+        for feed in self._live_feeds():
             feed.log.turn(now)
 
     def _tell(self) -> None:

@@ -10,7 +10,7 @@ LOST = 10  # the same in a crowd: most questions find no room then
 WAIT = 0.25  # for an answer (s)
 SOONER = 0.02  # for an answer of a link in whose queue datagrams wait (s)
 LEAST = 0.05  # how soon a question that the host refused is asked again (s)
-HURRIED = 8.0  # the patience of a link that was wrongly called deaf grows to this many times at most
+HURRIED = 8.0  # where links fall silent again and again patience grows to so many times at most
 SETTLED = 0.3  # a run that is told to end may answer so long (s)
 CALM = 60.0  # after so long without a deaf link patience is what it was (s)
 CROWD = 100  # datagrams that find no room within a second make a crowd
@@ -60,7 +60,6 @@ class Watch:
     dropped: list[tuple[float, int]] = field(default_factory=list)
 
     def awaits(self) -> list[int]:
-        """The descriptors to wait for."""
         return [link.client for link in self.links if link.client >= 0]
 
     def due(self) -> float:
