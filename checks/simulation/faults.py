@@ -190,7 +190,7 @@ def _slow(machine: Machine, more: tuple[str, ...]) -> None:
 
 
 def _late(machine: Machine, more: tuple[str, ...]) -> None:
-    machine.world.late = machine.world.now + float(more[0])
+    machine.world.late = max(machine.world.late, machine.world.now + float(more[0]))
 
 
 def _program(machine: Machine, wrong: str, lasts: str) -> None:
