@@ -21,6 +21,7 @@ from keeper.supervisor.watchdog import Link
 from keeper.errors import ended
 
 FACTS = "service.json"  # in the runtime folder
+LONGEST = 1 << 20  # bytes of it that are read
 EVERY = 2.0  # how often facts are told (s)
 WRITTEN = 10.0  # how often they are written (s)
 PENDING = 1 << 18  # bytes that wait for the reporter; where there are more it hangs
@@ -50,7 +51,7 @@ class Reports:
         """When the host was paused, as the keeper before has told it (Unix s), 0.0 where it wasn't:
         what was received before that isn't read back."""
         try:
-            told = json.loads(disk.read_all(self.host, os.path.join(self.folder, FACTS), PENDING))
+            told = json.loads(disk.read_all(self.host, os.path.join(self.folder, FACTS), LONGEST))
             return float(told["paused"])
         except (OSError, ValueError, TypeError, KeyError):
             return 0.0
