@@ -56,7 +56,7 @@ def planted(top: Path, one: Bug) -> Iterator[Path]:
         yield Path(folder)
 
 
-NEXT = "for run in (self.serving, self.next, *self.ending):"
+SLEEP = "        for run in self._runs():\n            run.end_at_once()\n        self._drop_next()\n"
 WRONG = (
     # The clocks
     bug("sleeps below 10 s aren't seen", "clocks", "AWAKE = 0.01", "AWAKE = 10.0",
@@ -74,8 +74,7 @@ WRONG = (
     bug("the last minutes go on over a sleep", "radios", "self.recent.clear()", "pass",
         "430 sleep 40"),
     Bug("the run that stands by goes on over a sleep", "service",
-        ((NEXT, "for run in (self.serving, *self.ending):"),
-         ("_drop_next()\n        self._lose(cause, ", "watch\n        self._lose(cause, ")),
+        ((SLEEP, "        if self.serving:\n            self.serving.end_at_once()\n"),),
         "430 sleep 40"),
     bug("a pause of the host isn't seen", "pauses", "LEAST = 0.2", "LEAST = 1e9", "430 jump 40"),
     bug("the next keeper isn't told of a pause", "reports", "return float(told[\"paused\"])",
@@ -123,7 +122,8 @@ WRONG = (
     bug("a run that is dropped isn't released", "service", "            self.next.release()\n", "",
         often("kill-next", 20), ends=800),
     # Sources
-    bug("each radio's pulses go to all", "runs", "if own is feed:", "if own or feed:", "",
+    bug("each radio's pulses go to all", "runs", "            self.outlets[feed].give(",
+        "            for one in self.outlets.values():\n                one.give(", "",
         "command,command 5123 600 60 socket 5"),
     bug("a run that begins isn't given the last minutes", "radios",
         "return [one for one in self.recent if one.given.start >= oldest]", "return []",

@@ -44,15 +44,15 @@ class Run:
 
     def __init__(self, host: Host, settings: Settings, feeds: Sequence[Feed],
                  links: Sequence[int], number: int) -> None:
-        self.host, self.settings, self.feeds, self.number = host, settings, feeds, number
+        self.host, self.settings, self.number = host, settings, number
         self.started = self.looked = host.monotonic()
         self.unfed = 0.0  # for how long it has read no pulse (s)
         self.own = [0] * len(links)
-        self.outlets: list[Outlet] = []
+        self.outlets: dict[Feed, Outlet] = {}
         self.signals: dict[str, int] = {}  # `ask`, `go` and `end`: what hasn't been told yet
         theirs: list[int] = []
         try:
-            self.child = self._start(list(links), theirs)
+            self.child = self._start(feeds, list(links), theirs)
         except OSError:
             self._close()
             self.remove_out()
@@ -63,7 +63,7 @@ class Run:
         for feed in feeds:
             self.give(feed, feed.last_minutes())
 
-    def _start(self, links: list[int], theirs: list[int]) -> Child:
+    def _start(self, feeds: Sequence[Feed], links: list[int], theirs: list[int]) -> Child:
         """Starts the process. `theirs` gets our copies of its descriptors."""
         host = self.host
 
@@ -71,12 +71,12 @@ class Run:
             theirs.append(pair[1])
             return pair[0]
 
-        for _ in self.settings.radios:
-            self.outlets.append(Outlet(host, handed(host.outlet()), PENDING))
-        logs = [f"/dev/fd/{one}" for one in theirs]
+        for feed in feeds:
+            self.outlets[feed] = Outlet(host, handed(host.outlet()), PENDING)
+        logs, words = [f"/dev/fd/{one}" for one in theirs], []
         for name in ("ask", "go", "end"):
             self.signals[name] = handed(host.pair())
-        words = [f"{name}={one}" for name, one in zip(self.signals, theirs[-3:])]
+            words.append(f"{name}={theirs[-1]}")
         if 0 < len(links) < LINKS:
             theirs.append(host.bind(LOCAL, 0))
             links, self.probe = [*links, theirs[-1]], host.port_of(theirs[-1])
@@ -129,22 +129,22 @@ class Run:
 
     def give(self, feed: Feed, heard: Sequence[Heard]) -> None:
         """Pulses of a radio, where it is one of this run's."""
-        for own, outlet in zip(self.feeds, self.outlets):
-            if own is feed:
-                outlet.give(b"".join(one.given.line() for one in heard))
+        if feed in self.outlets:
+            self.outlets[feed].give(b"".join(one.given.line() for one in heard))
 
     def push(self) -> None:
-        for outlet in self.outlets:
+        for outlet in self.outlets.values():
             outlet.push()
 
     def is_broken(self) -> bool:
         """Whether it doesn't take its pulses."""
-        return any(outlet.is_broken for outlet in self.outlets)
+        return any(outlet.is_broken for outlet in self.outlets.values())
 
     def is_fed(self) -> bool:
         """Whether it has read all that it was given."""
         try:
-            return not any(one.pending or self.host.unread(one.descriptor) for one in self.outlets)
+            return not any(one.pending or self.host.unread(one.descriptor)
+                           for one in self.outlets.values())
         except OSError:
             return False
 
@@ -195,7 +195,7 @@ class Run:
         return ": ".join(filter(None, ("doesn't answer" if status is None else ended(status), why)))
 
     def _close_pipes(self) -> None:
-        for outlet in self.outlets:
+        for outlet in self.outlets.values():
             outlet.close()
         while self.signals:
             self.host.close(self.signals.popitem()[1])

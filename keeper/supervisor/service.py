@@ -68,9 +68,13 @@ class Service:
         self.settings, self.feeds, self.links, self.is_open = settings, feeds, links, True
         self.addresses = own_addresses(settings.denied, settings.gap)
 
+    def _runs(self) -> list[Run]:
+        """All that live."""
+        return [run for run in (self.serving, self.next, *self.ending) if run]
+
     def awaits(self) -> list[int]:
-        runs = [one for one in (self.serving, self.next, *self.ending) if one]
-        return [run.child.ended for run in runs] + (self.looked_at or self.watch).awaits()
+        ends = [run.child.ended for run in self._runs()]
+        return ends + (self.looked_at or self.watch).awaits()
 
     def wakes(self) -> float:
         """When something is to be done at the latest (monotonic s)."""
@@ -78,10 +82,9 @@ class Service:
         return asks.due() if asks else float("inf")
 
     def heard(self, feed: Feed, heard: Sequence[Heard]) -> None:
-        """Pulses of a radio: both runs get them."""
-        for run in (self.serving, self.next):
-            if run:
-                run.give(feed, heard)
+        """Pulses of a radio: all runs get them."""
+        for run in self._runs():
+            run.give(feed, heard)
 
     def turn(self, readable: set[int]) -> None:
         now = self.host.monotonic()
@@ -90,9 +93,8 @@ class Service:
             self._lose("died", now)
         if self.is_open:
             self._step_next(now)
-        for run in (self.serving, self.next):
-            if run:
-                run.push()
+        for run in self._runs():
+            run.push()
         if self.next and self.looked_at:
             # Meanwhile both runs answer on the same links, which aren't asked.
             self._look(self.next, self.looked_at, readable, now)
@@ -288,9 +290,8 @@ class Service:
 
     def sleep(self, cause: str = "slept") -> None:
         """The host slept or was paused: each answer would be as wrong as that was long."""
-        for run in (self.serving, self.next, *self.ending):
-            if run:
-                run.end_at_once()
+        for run in self._runs():
+            run.end_at_once()
         self._drop_next()
         self._lose(cause, self.host.monotonic())
 
@@ -313,7 +314,6 @@ class Service:
         """Ends all at once."""
         self._drop_next()
         self.watch.close()
-        for run in (self.serving, *self.ending):
-            if run:
-                run.end_at_once()
-                run.release()
+        for run in self._runs():
+            run.end_at_once()
+            run.release()
