@@ -4,7 +4,6 @@ A simulation makes `Supervisor(host, settings)` over a host of its own, calls `b
 `turn` until it is False; `status` is then the exit status. What it starts, by `Host.spawn`: runs
 (runs.py), radios' commands (sources.py), and the reporter (reports.py)."""
 
-import contextlib
 import logging
 import os
 import signal
@@ -15,7 +14,7 @@ from typing import Any
 from keeper import lock
 from keeper.config import Radio, Settings
 from keeper.errors import DONE, NOT_WELL
-from keeper.supervisor import clocks, disk
+from keeper.supervisor import clocks
 from keeper.supervisor.host import Host, Task
 from keeper.supervisor.journals import OUT, Archive
 from keeper.supervisor.logs import PulseLog
