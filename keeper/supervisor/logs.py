@@ -37,11 +37,12 @@ class PulseLog:
         del self.waiting[:-WAITING]
 
     def turn(self, now: float) -> None:
-        """Hands on what waits, once a second."""
+        """Hands on what waits, once a second, and what isn't on the disk yet."""
         if self.task and self.task.done():
             self.note.take(disk.why(self.task.exception()))
             self.task, self.waiting = None, self.batch + self.waiting
-        if self.task is None and self.waiting and now >= self.due:
+        is_left = self.waiting or self.unsynced and now - self.synced >= SYNCED
+        if self.task is None and is_left and now >= self.due:
             self.due = now + WRITTEN
             self.batch, self.waiting = self.waiting, []
             self.task = self.host.aside(self._write)
