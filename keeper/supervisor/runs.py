@@ -22,6 +22,7 @@ LINKS = 8  # the most links of a station
 PENDING = 1 << 20  # bytes that wait for a pipe that is full; more says that nobody reads it
 SENTENCES = 4096  # of what it says on its standard error, in bytes
 HUNG = 2.0  # one that reads no pulse for so long hangs (s)
+BEGINS = 10.0  # the same of one that has read none yet: a busy host takes long to start it (s)
 LATE = 0.1  # each look counts for so long at most, since the loop may be late itself (s)
 LOCAL = "127.0.0.1"
 
@@ -37,7 +38,7 @@ class Run:
     ended: float | None = None
     asks_since = float("inf")  # since when its servers are asked (monotonic s)
     cause = why = note = out = ""
-    had_time = False
+    has_read = had_time = False
     is_crowded = False  # whether more datagrams came than are answered as it began
     errors = -1
     probe = 0
@@ -150,9 +151,12 @@ class Run:
 
     def hangs(self, now: float) -> bool:
         """Whether it hasn't read what it was given for long. Call it often."""
-        self.unfed = 0.0 if self.is_fed() else self.unfed + min(now - self.looked, LATE)
+        if self.is_fed():
+            self.unfed, self.has_read = 0.0, True
+        else:
+            self.unfed += min(now - self.looked, LATE)
         self.looked = now
-        return self.unfed > HUNG
+        return self.unfed > (HUNG if self.has_read else BEGINS)
 
     def tell(self, name: str) -> None:
         """`ask`: its servers may be asked; `go`: it serves."""

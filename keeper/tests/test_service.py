@@ -257,6 +257,17 @@ class Faults(Case):
         self.assertTrue(any("run 2, which stood by, takes no pulses" in one
                             for one in self.host.said))
 
+    def test_one_that_stands_by_may_take_long_to_begin(self) -> None:
+        """As where the host is busy. One that begins never is replaced."""
+        self.begin()
+        self.pulse()
+        self.turn(lambda: len(self.host.programs()) == 2)
+        waiting = self.host.programs()[1]
+        waiting.frozen = True
+        self.turn(8.0)
+        self.assertIsNone(waiting.status)
+        self.turn(lambda: waiting.status is not None, 4.0)
+
     def test_one_that_stands_by_is_not_blamed_where_the_loop_is_late(self) -> None:
         self.begin()
         self.turn(1.0)
