@@ -187,7 +187,7 @@ class Run:
     def served_for(self) -> float:
         """Seconds for which it served, up to its end or now."""
         end = self.host.monotonic() if self.ended is None else self.ended
-        return max(0.0, end - self.began) if self.began is not None else 0.0
+        return end - self.began if self.began is not None else 0.0
 
     def how(self) -> str:
         """How it ended, and the sentence in which it has said what went wrong."""

@@ -216,7 +216,6 @@ class Service:
         self.serving, self.next, self.looked_at = run, None, None
         ports = run.settings.links
         if [link.port for link in self.watch.links] != ports:
-            self.watch.close()
             self.watch = Watch(self.host, [Link(port, self.links[port]) for port in ports], [])
         self.watch.addresses, self.watch.changed = self.addresses, True
         self.watch.begin(now, was_deaf)
@@ -288,7 +287,7 @@ class Service:
         for port, count in zip(run.settings.links, counts):
             self.requests[port] = self.requests.get(port, (0, 0.0))[0] + count, count / seconds
 
-    def sleep(self, cause: str = "slept") -> None:
+    def sleep(self, cause: str) -> None:
         """The host slept or was paused: each answer would be as wrong as that was long."""
         for run in self._runs():
             run.end_at_once()

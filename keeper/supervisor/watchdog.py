@@ -168,8 +168,7 @@ class Watch:
         if was_deaf:
             self.deaf_at, self.patience = now, min(self.patience * 2, HURRIED)
         for link in self.links:
-            self._forget(link)
-            link.silent, link.due, link.asked, link.waits_since = 0, now + SETTLED, 0, None
+            link.silent, link.due, link.waits_since = 0, now + SETTLED, None
 
     def close(self) -> None:
         for link in self.links:
