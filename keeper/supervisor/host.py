@@ -71,7 +71,8 @@ class Host:
     def __init__(self) -> None:
         self.children: dict[int, subprocess.Popen[bytes]] = {}
         self.released: list[subprocess.Popen[bytes]] = []
-        self.came: list[int] = []
+        self.came: list[int] = []  # signals
+        self.has_terminal = os.isatty(2)
         self.woken, self.wakes = os.pipe2(os.O_NONBLOCK | os.O_CLOEXEC)
         self.life, self.alive = os.pipe2(os.O_CLOEXEC)  # `life` has an end once we have died
         signal.signal(signal.SIGCHLD, signal.SIG_DFL)  # else nobody knows how a child ended
@@ -123,13 +124,15 @@ class Host:
             poll.register(one, select.POLLIN)
         found = {one for one, _ in poll.poll(max(0.0, seconds) * 1000)}
         if self.woken in found:
-            os.read(self.woken, 4096)
+            self.came += os.read(self.woken, 4096)
         return found - {self.woken}
 
     def signals(self) -> list[int]:
-        """The signals of `take_signals` that came since the last call, in their order."""
-        came, self.came[:] = self.came[:], []
-        return came
+        """The signals of `take_signals` that came since the last call, in their order. A terminal
+        that closes asks for the end."""
+        came, self.came = self.came, []
+        is_closed = self.has_terminal and not os.isatty(2)
+        return [signal.SIGTERM if is_closed and one == signal.SIGHUP else one for one in came]
 
     def aside(self, job: Callable[[], None]) -> Task:
         """Has another thread do a job, after those that were given before. It shares nothing with
@@ -368,17 +371,10 @@ def do(task: Future[Result], job: Callable[[], Result]) -> None:
 
 
 def take_signals(host: Host) -> None:
-    """From now on SIGTERM, SIGINT and SIGHUP are for `signals`. A terminal that closes asks for
-    the end."""
+    """From now on SIGTERM, SIGINT and SIGHUP are for `signals`: Python writes their numbers."""
     signal.set_wakeup_fd(host.wakes, warn_on_full_buffer=False)
-    has_terminal = os.isatty(2)
-
-    def note(number: int, _: object) -> None:
-        is_closed = number == signal.SIGHUP and has_terminal and not os.isatty(2)
-        host.came.append(signal.SIGTERM if is_closed else number)
-
     for number in (signal.SIGTERM, signal.SIGINT, signal.SIGHUP):
-        signal.signal(number, note)
+        signal.signal(number, lambda *_: None)
 
 
 class Sentences(logging.Handler):
