@@ -77,8 +77,8 @@ WRONG = (
         ((SLEEP, "        if self.serving:\n            self.serving.end_at_once()\n"),),
         "430 sleep 40"),
     bug("a pause of the host isn't seen", "pauses", "LEAST = 0.2", "LEAST = 1e9", "430 jump 40"),
-    bug("the next keeper isn't told of a pause", "reports", "return float(told[\"paused\"])",
-        "return float(0)", "430 jump 40;440 kill"),
+    bug("the next keeper isn't told of a pause", "reports", "told.get(\"paused\", 0.0)",
+        "told.get(\"\", 0.0)", "430 jump 40;440 kill"),
     # The loop
     bug("the loop rests for half a second", "supervisor", "TURN = 0.025", "TURN = 0.5"),
     bug("systemd is told nothing", "supervisor", "self.host.notify(\"WATCHDOG=1\")", "pass"),

@@ -49,12 +49,14 @@ class Reports:
 
     def paused_before(self) -> float:
         """When the host was paused, as the keeper before has told it (Unix s), 0.0 where it wasn't:
-        what was received before that isn't read back."""
+        what was received before that isn't read back. Where nobody knows it may just have been."""
         try:
             told = json.loads(disk.read_all(self.host, os.path.join(self.folder, FACTS), LONGEST))
-            return float(told["paused"])
-        except (OSError, ValueError, TypeError, KeyError):
+            return float(told.get("paused", 0.0))
+        except FileNotFoundError:
             return 0.0
+        except (OSError, ValueError, TypeError, AttributeError):
+            return self.host.realtime()
 
     def awaits(self) -> list[int]:
         return [self.child.ended] if self.child else []

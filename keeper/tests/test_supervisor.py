@@ -325,6 +325,23 @@ class Beside(Case):
         self.turn(1.0)
         self.assertEqual([one.pulses for one in self.host.programs()], [2, 2])
 
+    def test_where_nobody_knows_of_a_pause_nothing_is_read_back(self) -> None:
+        self.begin()
+        self.pulse(5)
+        self.turn(3.0)
+        self.supervisor.close()
+        os.unlink(self.source)
+        path = os.path.join(self.folder.name, "run", "service.json")
+        for text, due in ((b"[]", 0), (b"", 0), (b'{"paused": "x"}', 0), (b"{}", 5)):
+            with self.subTest(text=text):
+                with open(path, "wb") as file:
+                    file.write(text)
+                self.supervisor = Supervisor(self.host, self.settings())
+                self.begin()
+                self.turn(1.0)
+                self.assertEqual([one.pulses for one in self.host.programs()], [due, due])
+                self.supervisor.close()
+
     def test_a_step_of_the_clock_changes_no_run(self) -> None:
         self.begin()
         self.host.ahead += 86400
