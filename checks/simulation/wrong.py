@@ -147,6 +147,9 @@ WRONG = (
     # The disk
     bug("logs are written each 100 s", "logs", "SYNCED = 1.0,", "SYNCED = 100.0,", "595 cut"),
     bug("logs aren't synced", "logs", "SYNCED = 1.0, 50.0", "SYNCED = 1.0, 5000.0", "559 cut"),
+    bug("a silent radio's last lines aren't synced", "logs",
+        "is_left = self.waiting or self.unsynced and", "is_left = self.waiting and",
+        "430 fade 0 20;530 cut"),
     bug("a log's name isn't synced", "logs", "                self.host.sync(self.folder)\n",
         "                pass\n", "250 cut"),
     bug("a journal isn't synced", "disk", "            if sync:\n                host.sync(",
