@@ -76,14 +76,12 @@ class Supervisor:
         for name in self.host.names(self.settings.runtime):
             if name.endswith(OUT):  # of a supervisor that was killed
                 self.archive.add(os.path.join(self.settings.runtime, name), [])
-        for place in range(len(self.settings.radios)):
-            self.feeds.append(self._feed(place, self.settings))
+        for place, radio in enumerate(self.settings.radios):
+            self.feeds.append(self._feed(place, radio))
             self.feeds[-1].recall(self.feeds[-1].log.last_pulses())
         self.host.notify("READY=1")
 
-    def _feed(self, place: int, settings: Settings) -> Feed:
-        """A feed of the radio at this place."""
-        radio = settings.radios[place]
+    def _feed(self, place: int, radio: Radio) -> Feed:
         return Feed(self.host, place, radio, self._log(place, radio), self._heard)
 
     def _log(self, place: int, radio: Radio) -> PulseLog:
@@ -233,7 +231,7 @@ class Supervisor:
                 return f"{key}: the keeper has to be started anew for another one"
         try:
             self._bind(settings)
-            feeds = [self._feed_for(place, settings) for place in range(len(settings.radios))]
+            feeds = [self._feed_for(place, radio) for place, radio in enumerate(settings.radios)]
         except OSError as error:
             return error.strerror or str(error)
         for feed in self.feeds:
@@ -247,14 +245,13 @@ class Supervisor:
         log.info("both files were read anew")
         return ""
 
-    def _feed_for(self, place: int, settings: Settings) -> Feed:
+    def _feed_for(self, place: int, radio: Radio) -> Feed:
         """The feed that runs where the radio is the same; what another one of the same source has
         heard is at hand."""
-        radio = settings.radios[place]
         old = self.feeds[place] if place < len(self.feeds) else None
         if old and old.radio == radio:
             return old
-        feed = self._feed(place, settings)
+        feed = self._feed(place, radio)
         if old and (old.radio.kind, old.radio.value) == (radio.kind, radio.value):
             feed.recall([one.raw for one in old.last_minutes()])
         return feed
