@@ -7,6 +7,7 @@ import signal
 import subprocess
 import sys
 import time
+from collections.abc import Callable
 
 from checks.kept_bounds import CHANGE, CHANGES, FLOODED, GONE, KILLED, LATE, LONGEST_START, NOTHING, PYTHONS, SLOW, WARM, bound, tried
 from checks.kept_journals import as_decoded, as_steadied, due, whole
@@ -234,8 +235,9 @@ def five_million(base: float) -> int:
     return flood(base, 5_000_000)
 
 
-CASES = (starts, changes, killed, flood, sources, full_disk)
-LONG = (thousand, five_million)  # outside the gate: three quarters of an hour, a minute
+Case = Callable[[float], int]
+CASES: tuple[Case, ...] = (starts, changes, killed, flood, sources, full_disk)
+LONG: tuple[Case, ...] = (thousand, five_million)  # outside the gate: three quarters of an hour, a minute
 
 
 def main() -> int:

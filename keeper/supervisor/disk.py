@@ -70,12 +70,11 @@ def write_all(host: Host, descriptor: int, data: bytes) -> None:
         place += wrote
 
 
-def put(host: Host, path: str, data: bytes, sync: bool = True) -> None:
+def put(host: Host, path: str, data: bytes, mode: int = 0o644, sync: bool = True) -> None:
     """Puts a file in its place: whole, or not at all. Raises OSError, and then leaves nothing."""
     part = path + PART
-    with contextlib.suppress(FileNotFoundError):  # of one that was killed, or somebody else's link
-        host.remove(part)
-    descriptor = host.open(part, os.O_WRONLY | os.O_CREAT | os.O_EXCL | os.O_NOFOLLOW, 0o644)
+    remove_any(host, part)  # of one that was killed, or somebody else's link
+    descriptor = host.open(part, os.O_WRONLY | os.O_CREAT | os.O_EXCL | os.O_NOFOLLOW, mode)
     try:
         try:
             write_all(host, descriptor, data)
@@ -90,6 +89,12 @@ def put(host: Host, path: str, data: bytes, sync: bool = True) -> None:
         raise
     if sync:
         host.sync(os.path.dirname(path))
+
+
+def remove_any(host: Host, path: str) -> None:
+    """Removes a name that may be there."""
+    with contextlib.suppress(FileNotFoundError):
+        host.remove(path)
 
 
 def whole(text: bytes) -> bytes:
