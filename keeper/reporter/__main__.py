@@ -70,6 +70,7 @@ class Reporter:
         if step := self.clocks.step():
             self.station.move(step)
             self.alarms.move(step)
+            self.due["renew"] = 0.0  # who reads the age of what is shown counts by the new clock
         self._try("what decode says", self.station.turn)
         self._try("alarms", self._judge, self.station)
         if self._is_due("renew", RENEWED):

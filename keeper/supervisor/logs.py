@@ -12,7 +12,37 @@ from keeper.supervisor.pulses import OLDEST, Pulse, reading
 WRITTEN, SYNCED = 1.0, 50.0  # how often lines are written, and put on the disk (s)
 MOST = 32 << 20  # bytes of a log: a receiver's day has 2 MB
 WAITING = 20_000  # lines that wait for the disk; of more the oldest are dropped
+PIECE = 4096  # bytes that are looked at for the last whole line
 TAIL = 65536  # bytes of the end of a log that are read: more than 15 minutes
+
+
+def cut(host: Host, descriptor: int) -> int:
+    """Cuts off what a power cut or a full disk left at a log's end: zeros, or half a line. Its size
+    then. Raises OSError."""
+    size = kept = host.stat(descriptor).st_size
+    while kept:
+        tail = host.read_at(descriptor, min(PIECE, kept), max(0, kept - PIECE))
+        kept -= len(tail)
+        if whole := disk.whole(tail):
+            kept += len(whole)
+            break
+    if kept < size:
+        host.truncate(descriptor, kept)
+    return kept
+
+
+def mend(host: Host, folder: str) -> None:
+    """A job: cuts the logs of a folder, those of an earlier boot too. Who reads one finds whole
+    lines alone."""
+    with contextlib.suppress(OSError):
+        for name in host.names(folder):
+            if name.endswith(".log"):
+                with contextlib.suppress(OSError):
+                    descriptor = host.open(os.path.join(folder, name), os.O_RDWR | os.O_NOFOLLOW)
+                    try:
+                        cut(host, descriptor)
+                    finally:
+                        host.close(descriptor)
 
 
 class PulseLog:
@@ -78,17 +108,12 @@ class PulseLog:
 
     @contextlib.contextmanager
     def _opened(self, name: str) -> Iterator[int]:
-        """Opens a log, whose folder may have been taken away. What a power cut left at its end is
-        cut off."""
+        """Opens a log, whose folder may have been taken away."""
         self.host.make_folder(self.folder)
         flags = os.O_RDWR | os.O_APPEND | os.O_CREAT | os.O_NOFOLLOW
         descriptor = self.host.open(os.path.join(self.folder, name), flags)
         try:
-            size = self.host.stat(descriptor).st_size
-            tail = self.host.read_at(descriptor, 4096, max(0, size - 4096))
-            if len(disk.whole(tail)) < len(tail):
-                self.host.truncate(descriptor, size - len(tail) + len(disk.whole(tail)))
-            if not size:
+            if not cut(self.host, descriptor):
                 self.host.sync(self.folder)
             yield descriptor
         finally:

@@ -17,7 +17,7 @@ from keeper.errors import DONE, NOT_WELL
 from keeper.supervisor import clocks
 from keeper.supervisor.host import Host, Task
 from keeper.supervisor.journals import OUT, Archive
-from keeper.supervisor.logs import PulseLog
+from keeper.supervisor.logs import PulseLog, mend
 from keeper.supervisor.pauses import Pauses
 from keeper.supervisor.radios import Feed, Heard
 from keeper.supervisor.reports import Reports, facts_of
@@ -79,15 +79,18 @@ class Supervisor:
         for place, radio in enumerate(self.settings.radios):
             self.feeds.append(self._feed(place, radio))
             self.feeds[-1].recall(self.feeds[-1].log.last_pulses())
+        self.closing.append(self.host.aside(lambda: mend(self.host, self._logs())))
         self.host.notify("READY=1")
 
     def _feed(self, place: int, radio: Radio) -> Feed:
         return Feed(self.host, place, radio, self._log(place, radio), self._heard)
 
     def _log(self, place: int, radio: Radio) -> PulseLog:
-        folder = os.path.join(self.settings.folder, "logs")
         tag = clocks.tag_of(self.counter, f"{radio.kind} {radio.value}")
-        return PulseLog(self.host, folder, place, radio.plan, tag)
+        return PulseLog(self.host, self._logs(), place, radio.plan, tag)
+
+    def _logs(self) -> str:
+        return os.path.join(self.settings.folder, "logs")
 
     def _heard(self, feed: Feed, heard: list[Heard]) -> None:
         """Pulses of a radio go to the runs first."""

@@ -9,7 +9,7 @@ import unittest
 from unittest import mock
 
 from keeper.supervisor import clocks, disk
-from keeper.supervisor.logs import PulseLog
+from keeper.supervisor.logs import PulseLog, mend
 from keeper.supervisor.pulses import Pulse
 from keeper.tests.fake_host import FakeHost
 
@@ -52,6 +52,22 @@ class Logs(Folder):
         (self.folder / NAME).write_bytes(b"10 1\n20 1\n3")
         self.add(self.log(), 30)
         self.assertEqual((self.folder / NAME).read_bytes(), b"10 1\n20 1\n30 1\n")
+
+    def test_logs_of_an_earlier_boot_end_with_a_whole_line(self) -> None:
+        """Zeros or half a line, more than is looked at in one go, or nothing else."""
+        line = b"1789000000000000 100000\n"
+        for text in (line * 2 + bytes(17), line * 2 + b"17890", line * 2 + bytes(9000), line * 2,
+                     line * 400 + bytes(3) + line * 2, bytes(5000), b"", b"1" * 5000):
+            (self.folder / NAME).write_bytes(text)
+            mend(self.host, str(self.folder))
+            whole = (self.folder / NAME).read_bytes()
+            with self.subTest(size=len(text)):
+                self.assertEqual(whole, line * (400 if len(text) > 9600 else whole.count(line)))
+                self.assertEqual(len(whole), len(line) * min(text.split(b"\0")[0].count(line), 400))
+        (self.folder / "other.log").symlink_to(self.folder / "nowhere")
+        (self.folder / "b.log").mkdir()
+        mend(self.host, str(self.folder))
+        mend(self.host, str(self.folder / "nowhere"))
 
     def test_zeros_of_a_power_cut_are_cut_off(self) -> None:
         (self.folder / NAME).write_bytes(b"10 1\n20 1\n" + bytes(200))

@@ -113,6 +113,20 @@ class Reporters(Folder):
             self.assertEqual(died, ["the run before ended by itself; run 2 follows"])
             reporter._renew(station)
 
+    def test_what_is_shown_is_renewed_at_once_where_the_clock_was_set(self) -> None:
+        """Else its age would be told by another clock."""
+        reporter = self.reporter()
+        self.tell(reporter, {"facts": facts(self.folder)})
+        nothing = mock.patch("keeper.reporter.__main__.select.select", return_value=[[]])
+        with nothing, self.assertLogs("keeper"):
+            reporter.turn()  # alarms of the start
+            reporter.turn()
+        os.remove(os.path.join(self.runtime, STATE))
+        for step, is_due in ((0.0, False), (86400.0, True)):
+            with nothing, mock.patch.object(reporter.clocks, "step", return_value=step):
+                reporter.turn()
+            self.assertEqual(os.path.exists(os.path.join(self.runtime, STATE)), is_due)
+
     def test_an_alarm_is_in_the_state_at_once(self) -> None:
         reporter = self.reporter()
         station = self.tell(reporter, {"facts": facts(self.folder)})
