@@ -66,6 +66,7 @@ has_time 'at the start' 90
 [ "$(property ActiveState)" = active ] || wrong "the unit is $(property ActiveState)"
 # The state is renewed every ten seconds, and the root dispersion is great until eight minutes were read.
 until_well 'at the start' 30
+sleep 2  # a log is written once a second, and this one has the eight minutes that are read back
 
 killed=0
 longest=0
