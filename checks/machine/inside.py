@@ -1,0 +1,111 @@
+"""Cases of what happens in a machine: its clock is set, chronyd steers it, its disk fills, its line dies, its package is exchanged."""
+
+import time
+
+from checks.machine.client import Client, silence, worst
+from checks.machine.trial import PACKAGE, Trial
+
+STEPS = ("+10 seconds", "+3 days", "-5 days", "+2 days", "+3 years", "-3 years", "-10 seconds")
+MOVED = 0.005  # by how much more than before answers may be off after a step of the clock, in seconds
+CHRONY = "port 0\nserver 127.0.0.1 iburst\nmakestep 0.1 3\nmaxslewrate 10\ndriftfile /var/lib/chrony/drift\n"
+STEERED = 600  # how long chronyd steers the machine's clock, in seconds
+NEAR = 0.01  # how far that clock is off at most by then, in seconds
+FULL, FROZEN = 60, 25  # how long the disk takes nothing, in seconds
+SILENCE = 1.0  # the longest span without an answer that has the time, in seconds
+FILL = "runuser -u radio_ntpd -- dd if=/dev/zero of=/var/lib/radio_ntpd/filler bs=64k"
+# The receiver's mode, how long it lasts (s), and what `status` has to say of it.
+SPOILS = (("dead", 100.0, ("no pulse", "stalled", "waiting")), ("inverted", 130.0, ("inverted", "--low")), ("hum", 100.0, ("hum", "noise")))
+WELL = 75.0  # between two of them, in seconds
+
+
+def clock(trial: Trial) -> None:
+    """The clock is set by seconds, days and years: no answer changes, and no alarm stands for days."""
+    client = trial.served()
+    time.sleep(20)
+    before = worst(client.since(time.monotonic() - 15))
+    for step in STEPS:
+        began = time.monotonic()
+        trial.machine.must(f'date --set "$(date) {step}"')
+        time.sleep(15)
+        answers = client.since(began)
+        trial.result.right(step, answers)
+        moved, lacks = worst(answers) - before, sum(not one.has_time for one in answers)
+        trial.result.need(abs(moved) <= MOVED and not lacks, f"{step}: {lacks} without the time; the worst moved by {moved * 1e3:+.1f} ms")
+    said = trial.status().splitlines()
+    trial.result.need(said[:1] != [] and said[0].startswith("OK"), f"status then begins: {said[:2]}")
+
+
+def offset(trial: Trial) -> float:
+    """What the machine's clock is ahead of the one outside (s), within some milliseconds."""
+    text = trial.machine.must("python3 -c 'import time; print(time.time() - time.monotonic())'")
+    return float(text) + trial.machine.ahead() - trial.base
+
+
+def chrony(trial: Trial) -> None:
+    """chronyd steers the machine's clock, which is 335 ms off, by the service, as the page of clients has it."""
+    client = trial.served()
+    trial.machine.put("/etc/chrony/chrony.conf", CHRONY)
+    trial.machine.must("date --set @$(python3 -c 'import time; print(time.time() + 0.335)')")
+    before, began = offset(trial), time.monotonic()
+    trial.machine.must("systemctl unmask chrony && systemctl start chrony", 100)
+    for _ in range(STEERED // 60):
+        time.sleep(60)
+        trial.say(f"its clock is {offset(trial) * 1e3:+.1f} ms off; {trial.machine.must('chronyc -c tracking').strip()}")
+    after = offset(trial)
+    trial.result.need(abs(after) <= NEAR, f"chronyd brought the clock from {before * 1e3:+.0f} ms to {after * 1e3:+.1f} ms")
+    trial.result.right("meanwhile", client.since(began))
+
+
+def quiet(trial: Trial, name: str, client: Client, began: float) -> None:
+    """What a client met since then: nothing wrong, and the time all the while."""
+    answers = client.since(began)
+    trial.result.right(name, answers)
+    longest = silence(answers, began, time.monotonic())
+    trial.result.need(longest <= SILENCE, f"{name}: the longest span without the time {longest:.2f} s")
+
+
+def disk(trial: Trial) -> None:
+    """A full disk that `status` names, and a frozen one in which it finds no dead port."""
+    client = trial.served()
+    time.sleep(10)
+    began = time.monotonic()
+    trial.machine.shell(FILL, 300)
+    time.sleep(FULL)
+    said = trial.status()
+    quiet(trial, "a full disk", client, began)
+    trial.result.need("written" in said or "space" in said, f"a full disk: status says: {said[:300]}")
+    trial.machine.must("rm /var/lib/radio_ntpd/filler")
+    time.sleep(30)
+    began = time.monotonic()
+    trial.machine.must(f"sync; fsfreeze -f /; sleep {FROZEN}; fsfreeze -u /", FROZEN + 100)
+    said = trial.status()
+    quiet(trial, "a frozen disk", client, began)
+    trial.result.need("doesn't answer" not in said, f"a frozen disk: status says: {said[:300]}")
+
+
+def dead(trial: Trial) -> None:
+    """The line dies, turns its polarity, hums: `status` names it while the service runs, and the time stays."""
+    client = trial.served()
+    for mode, seconds, words in SPOILS:
+        began = time.monotonic()
+        trial.mode(mode)
+        time.sleep(seconds)
+        said = " / ".join(trial.status().splitlines())
+        trial.mode("on")
+        trial.result.need(any(word in said for word in words), f"{mode} for {seconds:.0f} s: status says: {said[:700]}")
+        time.sleep(WELL)
+        quiet(trial, mode, client, began)
+
+
+def upgrade(trial: Trial) -> None:
+    """The same package is installed again while a client asks 20 times a second."""
+    client = trial.served()
+    client = trial.client(20)
+    time.sleep(20)
+    began = time.monotonic()
+    trial.machine.must(f"dpkg --install {PACKAGE}", 400)
+    time.sleep(20)
+    answers = client.since(began)
+    trial.result.right("an upgrade", answers)
+    longest = silence(answers, began, time.monotonic())
+    trial.result.need(longest <= 30, f"an upgrade: the longest span without the time {longest:.1f} s; {trial.journal()}")

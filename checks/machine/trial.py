@@ -1,0 +1,143 @@
+"""A machine with the package, its receiver and a client outside: what each case begins with."""
+
+import time
+from dataclasses import dataclass, field
+from pathlib import Path
+from types import TracebackType
+
+from checks.machine.client import Client, Judged
+from checks.machine.image import image
+from checks.machine.receiver import Figures, Receiver, log_before
+from checks.machine.vm import Machine, accelerated
+from lab.held import Wrong
+from lab.kept import base_now
+
+STATION = 'bound = 1000\n[[radio]]\nplan = "dcf"\nlog = "x"\n[[link]]\nport = 123\n'
+KEEPER = """station = "station.toml"
+state = "/var/lib/radio_ntpd"
+runtime = "/run/radio_ntpd"
+[[radio]]
+command = "/opt/machine/radio.sh"
+steady = true
+"""
+# Five whole minutes and what is left of the first: with a bound of 1000 the fourth verdict gives the time.
+MINUTES = 370.0
+BEFORE = 800.0  # of pulses that a receiver is given from before its first edge, in seconds
+TIME = 900.0  # a machine that stalls may lose some minutes, in seconds
+PACKAGE = "/root/radio-ntpd.deb"
+
+
+@dataclass
+class Result:
+    """What a case found: sentences with figures, and those that say what is wrong."""
+
+    figures: list[str] = field(default_factory=list)
+    faults: list[str] = field(default_factory=list)
+
+    def need(self, holds: bool, what: str) -> None:
+        """A figure, which is a fault where it is out of its bound."""
+        (self.figures if holds else self.faults).append(what)
+        print(f"    {'held' if holds else 'WRONG'}: {what}", flush=True)
+
+    def right(self, name: str, answers: list[Judged]) -> None:
+        """Needs some answers, and none of them wrong."""
+        wrong = [one for one in answers if one.is_wrong]
+        errors = sorted(one.error for one in answers if one.has_time)
+        told = f"off by {errors[0] * 1e3:+.1f} to {errors[-1] * 1e3:+.1f} ms" if errors else "none with the time"
+        self.need(bool(answers) and not wrong, f"{name}: {len(answers)} answers, {len(wrong)} wrong, {told}")
+
+
+class Trial:
+    """One machine for a case. Its files are in `work`, and it ends with the `with`."""
+
+    def __init__(self, packages: list[Path], work: Path) -> None:
+        self.packages, self.work, self.result = packages, work, Result()
+        # UTC at the zero of the monotonic clock outside: fixed once, so that no step moves it.
+        self.base = base_now()
+        self.receiver: Receiver | None = None
+        self.clients: list[Client] = []
+
+    def __enter__(self) -> "Trial":
+        self.machine = Machine(image(self.work), self.work, self.packages)
+        try:
+            self.say(f"the machine is up after {self.machine.start():.0f} s, by {'KVM' if accelerated() else 'software emulation'}")
+            self.receiver = Receiver(self.work / "line", self.base)
+        except BaseException:
+            self.machine.cut()
+            raise
+        return self
+
+    def __exit__(self, kind: type[BaseException] | None, error: BaseException | None, trace: TracebackType | None) -> None:
+        for client in self.clients:
+            client.close()
+        if self.receiver is not None:
+            self.receiver.close()
+        self.machine.cut()
+        # The disk is as large as a case lets it grow; what a case needs of it was read before.
+        (self.work / "disk").unlink(missing_ok=True)
+
+    def say(self, text: str) -> None:
+        """A line about how far it is, with the true time."""
+        print(f"  {time.strftime('%H:%M:%S', time.gmtime(time.monotonic() + self.base))} {text}", flush=True)
+
+    def mode(self, name: str = "") -> Figures:
+        """How the receiver goes on, where it is named. Returns what became of the edges since it was asked last."""
+        return self.receiver.mode(name) if self.receiver is not None else Figures()
+
+    def client(self, rate: float = 10) -> Client:
+        """A client outside, which asks from now on. The one before it ends."""
+        while self.clients:
+            self.clients.pop().close()
+        self.clients.append(Client(self.work / "ntp", self.base, rate))
+        self.clients[-1].start()
+        return self.clients[-1]
+
+    def package(self, number: int = 0) -> None:
+        """Puts a package into the machine, which has it as a disk, in PACKAGE. Raises Wrong."""
+        size = self.packages[number].stat().st_size
+        self.machine.must(f"head -c {size} /dev/vd{'bcd'[number]} > {PACKAGE}")
+
+    def install(self) -> None:
+        """The package, with a station of this line. Raises Wrong."""
+        self.package()
+        self.machine.must(f"dpkg --install {PACKAGE}", 400)
+        for name, text in (("station", STATION), ("keeper", KEEPER)):
+            self.machine.put(f"/etc/radio_ntpd/{name}.toml", text)
+
+    def receive(self) -> None:
+        """Starts the service anew, with a receiver that has received since the machine's clock began, at most for BEFORE seconds."""
+        past = log_before("dcf", time.monotonic() + self.base, BEFORE, self.machine.ahead() - self.base)
+        name = "/run/radio_ntpd/before"
+        self.machine.must("install -d -o radio_ntpd -g radio_ntpd /run/radio_ntpd")
+        self.machine.put(name, past)
+        self.machine.must(f"chown radio_ntpd {name} && systemctl enable radio_ntpd && systemctl restart radio_ntpd", 200)
+
+    def served(self) -> Client:
+        """The package's service is started. Returns a client that has got the time. Raises Wrong."""
+        self.install()
+        time.sleep(max(0.0, self.machine.booted + MINUTES - time.monotonic()))
+        self.receive()
+        client = self.client()
+        self.say(f"the time came {self.time(client, 120):.0f} s after the service")
+        return client
+
+    def time(self, client: Client, within: float = TIME) -> float:
+        """Waits until the client gets the time. Returns after how long (s). Raises Wrong."""
+        began = time.monotonic()
+        if not client.waits(lambda one: one.has_time, within):
+            raise Wrong(f"no time after {within:.0f} s. {self.fair()} {self.status()}")
+        return time.monotonic() - began
+
+    def fair(self) -> str:
+        """What the host gave the machine, and what became of the line's edges since it was asked last."""
+        return f"{self.machine.starving()} The line: {self.mode().text()}."
+
+    def status(self) -> str:
+        """What `radio_keeper status` says."""
+        told = self.machine.ask("radio_keeper status", 60)
+        return str(told["text"]).strip() if told else "status gives no answer"
+
+    def journal(self, lines: int = 4) -> str:
+        """The last lines of the unit's log."""
+        told = self.machine.ask(f"journalctl -u radio_ntpd -n {lines} -o cat --no-pager", 60)
+        return " / ".join(str(told["text"]).splitlines()) if told else "journalctl gives no answer"
