@@ -24,7 +24,7 @@ NEEDS = {
     "setpriv": "util-linux",
 }
 SOURCE = Path("/usr/src/linux-source-6.1.tar.xz")
-PACKAGES = "systemd-sysv udev dbus kmod gpiod python3 chrony sudo procps iproute2 util-linux-extra initramfs-tools".split()
+PACKAGES = "systemd-sysv udev dbus kmod gpiod python3 chrony sudo procps iproute2 e2fsprogs util-linux-extra initramfs-tools".split()
 TAKEN = ("drivers/gpio/gpio-sim.c", "drivers/gpio/gpiolib.h", "kernel/irq/irq_sim.c")
 # The module is made of two files. A module can't call the first of these functions.
 CALL, INSTEAD = "handle_simple_irq(irq_to_desc(irqnum))", "generic_handle_irq(irqnum)"
