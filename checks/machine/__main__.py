@@ -1,8 +1,8 @@
 """Runs the service on Debian machines in QEMU: Debian's kernel and systemd, and a receiver on a GPIO line that the clock outside drives.
-A client outside judges each answer by that clock. Each CASE has a machine of its own, and says its bounds and what it met; without one
-all run, one after the other.
+A client outside judges each answer by that clock. Each argument has a machine of its own; several cases on one are joined by `+`. Without
+an argument all run, each on its own. Each says its bounds and what it met.
 
-    python3 -m checks.machine [--package FILE] [CASE..]
+    python3 -m checks.machine [--package FILE] [CASE[+CASE..]..]
 
 It takes the package that packaging/build_deb.sh makes of this checkout, or of RADIO_NTPD; --package names another one. docs/TESTING.md
 says what it needs and what takes how long. It isn't in the gate.
@@ -24,7 +24,7 @@ from pathlib import Path
 
 from checks.machine import evening, inside, outside
 from checks.machine.image import STORE
-from checks.machine.trial import Trial
+from checks.machine.trial import Result, Trial
 from lab import ends
 from lab.held import Wrong
 from lab.program import TOP, program
@@ -53,18 +53,26 @@ def built(folder: Path) -> Path:
     return Path(done.stdout.split()[-1])
 
 
-def run(name: str, package: Path) -> bool:
-    """Runs a case on a new machine. Whether it held its bounds. A folder is left with the machine's console."""
-    began = time.monotonic()
-    print(f"{name}:", flush=True)
-    work = Path(tempfile.mkdtemp(prefix=f"{name}-", dir=STORE))
+def run(names: list[str], package: Path) -> bool:
+    """Runs cases one after the other on a new machine. Whether all held their bounds. A folder is left with the machine's console."""
+    work = Path(tempfile.mkdtemp(prefix=f"{names[0]}-", dir=STORE))
     try:
         with Trial([package], work) as trial:
-            CASES[name](trial)
-            trial.say(trial.fair())
+            return all([one(name, trial) for name in names])
     except (Wrong, OSError) as wrong:
-        print(f"{name} failed after {time.monotonic() - began:.0f} s: {wrong} ({work} has its console)", flush=True)
+        print(f"no machine: {wrong} ({work} has its console)", flush=True)
         return False
+
+
+def one(name: str, trial: Trial) -> bool:
+    """Runs a case. Whether it held its bounds."""
+    began, trial.result = time.monotonic(), Result()
+    print(f"{name}:", flush=True)
+    try:
+        CASES[name](trial)
+    except (Wrong, OSError) as wrong:
+        trial.result.need(False, str(wrong))
+    trial.say(trial.fair())
     held = not trial.result.faults
     print(f"{name} {'passed' if held else 'failed'} after {time.monotonic() - began:.0f} s", flush=True)
     return held
@@ -74,9 +82,10 @@ def main() -> int:
     """Runs the cases that are named, else all."""
     words = argparse.ArgumentParser(prog="machine", description=__doc__, formatter_class=argparse.RawDescriptionHelpFormatter)
     words.add_argument("--package", type=Path, help="a package that is built already")
-    words.add_argument("cases", nargs="*", metavar="CASE", help=", ".join(CASES))
+    words.add_argument("cases", nargs="*", metavar="CASE[+CASE..]", help=", ".join(CASES))
     given = words.parse_args()
-    unknown = [name for name in given.cases if name not in CASES]
+    groups = [group.split("+") for group in given.cases or CASES]
+    unknown = [name for group in groups for name in group if name not in CASES]
     if unknown:
         words.error(f"no case is named {unknown[0]}: there are {', '.join(CASES)}")
     if given.package and not os.access(given.package, os.R_OK):
@@ -89,7 +98,7 @@ def main() -> int:
         except Wrong as wrong:
             print(f"machine: {wrong}", file=sys.stderr)
             return 1
-        held = [run(name, package) for name in given.cases or CASES]
+        held = [run(group, package) for group in groups]
     return 0 if all(held) else 1
 
 

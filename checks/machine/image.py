@@ -13,16 +13,7 @@ from lab.held import Wrong
 GUEST = Path(__file__).resolve().parent / "guest"
 STORE = Path(os.environ.get("MACHINE_STORE") or "/var/tmp/radio_machine")
 SUITE = "bookworm"
-# Debian's package of each program that is needed here.
-NEEDS = {
-    "mmdebstrap": "mmdebstrap",
-    "qemu-system-x86_64": "qemu-system-x86",
-    "qemu-img": "qemu-utils",
-    "gcc": "gcc",
-    "make": "make",
-    "mkfs.ext4": "e2fsprogs",
-    "setpriv": "util-linux",
-}
+NEEDS = "mmdebstrap qemu-system-x86 qemu-utils linux-headers-amd64 linux-source-6.1 gcc make e2fsprogs"
 SOURCE = Path("/usr/src/linux-source-6.1.tar.xz")
 PACKAGES = "systemd-sysv udev dbus kmod gpiod python3 chrony sudo procps iproute2 e2fsprogs util-linux-extra initramfs-tools".split()
 TAKEN = ("drivers/gpio/gpio-sim.c", "drivers/gpio/gpiolib.h", "kernel/irq/irq_sim.c")
@@ -58,8 +49,11 @@ class Image:
 
 
 def run(*words: str | Path) -> str:
-    """What a program writes. Raises Wrong with its last lines where it fails."""
-    done = subprocess.run(words, stdin=subprocess.DEVNULL, stdout=subprocess.PIPE, stderr=subprocess.STDOUT, text=True)
+    """What a program writes. Raises Wrong with its last lines where it fails, or with what to install."""
+    try:
+        done = subprocess.run(words, stdin=subprocess.DEVNULL, stdout=subprocess.PIPE, stderr=subprocess.STDOUT, text=True)
+    except FileNotFoundError as none:
+        raise Wrong(f"there is no {words[0]}: apt-get install {NEEDS}") from none
     if done.returncode:
         last = " / ".join(done.stdout.splitlines()[-3:])
         raise Wrong(f"{Path(words[0]).name} ended with {done.returncode}: {last}")
@@ -70,7 +64,7 @@ def version() -> str:
     """The version of the newest kernel whose headers are here. Raises Wrong."""
     names = [path.name.removeprefix("linux-headers-") for path in Path("/usr/src").glob("linux-headers-6.1.0-*-amd64")]
     if not names:
-        raise Wrong("the kernel's headers aren't here: apt-get install linux-headers-amd64")
+        raise Wrong(f"the kernel's headers aren't here: apt-get install {NEEDS}")
     return max(names, key=lambda name: int(name.split("-")[1]))
 
 
@@ -116,14 +110,12 @@ def settle(made: Path, kernel: str) -> None:
     run("gcc", "-O2", "-Wall", "-static", "-o", place / "relay", GUEST / "relay.c")
     for name in ("agent.py", "line.sh", "radio.sh"):
         shutil.copy(GUEST / name, place)
-    units = sorted(GUEST.glob("*.service"))
-    for unit in units:
-        shutil.copy(unit, made / "etc" / "systemd" / "system")
+    shutil.copy(GUEST / "machine@.service", made / "etc" / "systemd" / "system")
     if "\nop:" not in (made / "etc" / "passwd").read_text():
         run("chroot", made, "groupadd", "--system", "gpio")
         run("chroot", made, "useradd", "--create-home", "--shell", "/bin/bash", "--groups", "gpio", "op")
     run("chroot", made, "systemctl", "mask", *UNITS)
-    run("chroot", made, "systemctl", "enable", *(unit.name for unit in units))
+    run("chroot", made, "systemctl", "enable", "machine@agent.py", "machine@line.sh")
     run("chroot", made, "update-initramfs", "-u", "-k", "all")
 
 
@@ -147,12 +139,6 @@ def base(kernel: str) -> Path:
 
 def image(work: Path) -> Image:
     """The disk of a new machine, in the folder `work`. Raises Wrong."""
-    path = os.environ["PATH"] + ":/usr/sbin:/sbin"
-    lacking = {package for program, package in NEEDS.items() if not shutil.which(program, path=path)}
-    if not SOURCE.exists():
-        lacking.add("linux-source-6.1")
-    if lacking:
-        raise Wrong(f"packages are missing: apt-get install {' '.join(sorted(lacking))}")
     if os.geteuid():
         raise Wrong("a machine's disk is made by root")
     STORE.mkdir(parents=True, exist_ok=True)

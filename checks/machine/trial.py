@@ -99,7 +99,9 @@ class Trial:
         self.machine.must(f"head -c {size} /dev/vd{'bcd'[number]} > {PACKAGE}")
 
     def install(self) -> None:
-        """The package, with a station of this line. Raises Wrong."""
+        """The package, with a station of this line, where it isn't there yet. Raises Wrong."""
+        if self.sources:
+            return
         self.package()
         self.machine.must(f"dpkg --install {PACKAGE}", 400)
         self.machine.put("/etc/radio_ntpd/station.toml", STATION)

@@ -1,5 +1,6 @@
 #!/bin/sh
-# In the machine: the receiver's pulses as keeper.toml has them. What was received before is read once, where a case has put it there.
+# In the machine: the receiver's pulses as keeper.toml has them. What was received before is read once, where a case has put it there. An
+# argument makes it another source.
 before=/run/radio_ntpd/before
 if [ -s "$before" ]; then
     cat "$before"
