@@ -132,30 +132,31 @@ def logs(trial: Trial) -> dict[str, Tail]:
 
 def cut(trial: Trial, cuts: int) -> None:
     """The power is cut at random moments, all but the last while something else writes; then the time comes by itself."""
-    draw = random.Random(SEED)
+    draw, known = random.Random(SEED), set[str]()
     trial.install()
     trial.machine.must("systemctl enable --now radio_ntpd", 200)
     for number in range(1, cuts + 1):
-        one_cut(trial, f"cut {number}", draw.uniform(70, 150), number < cuts)
+        known = one_cut(trial, f"cut {number}", draw.uniform(70, 150), number < cuts, known)
     client = trial.client()
     trial.result.need(True, f"the time came {trial.time(client):.0f} s after the last look. {trial.fair()}")
     trial.result.right("with the time", client.answers[:])
 
 
-def one_cut(trial: Trial, name: str, wait: float, has_load: bool) -> None:
-    """A cut after so long (s), and what the next boot finds."""
+def one_cut(trial: Trial, name: str, wait: float, has_load: bool, known: set[str]) -> set[str]:
+    """A cut after so long (s), and what the next boot finds of the logs that weren't known yet. Returns those that are known now."""
     machine = trial.machine
-    known = set(logs(trial)) if machine.shell(f"test -d {LOGS}")[0] == 0 else set()
     if has_load:
         machine.must(f"nohup sh -c '{LOAD}' > /dev/null 2>&1 &")
     time.sleep(wait)
+    there = {log.partition(".log")[0] for log in machine.must(f"ls {LOGS}").split()}
     ahead = machine.ahead()
     machine.cut()
     at = time.monotonic() + ahead
     took = machine.start()
     machine.must("until systemctl is-active radio_ntpd; do sleep 1; done; sleep 20", 240)
-    left = {one: found for one, found in logs(trial).items() if one.removesuffix(".gz") not in {each.removesuffix(".gz") for each in known}}
-    trial.result.need(bool(left), f"{name} at {at:.0f} s of its uptime: new are {len(left)} logs; up again after {took:.0f} s")
+    left = {log: found for log, found in logs(trial).items() if log.partition(".log")[0] in there - known}
+    trial.result.need(bool(left), f"{name} at {at:.0f} s of its uptime: it leaves {len(left)} logs; up again after {took:.0f} s")
     for log, found in left.items():
         told = f"{log} has {found.lines} lines, {found.bad} bad, {found.zeros} NUL bytes, and lacks the last {at - found.last:.1f} s"
         trial.result.need(found.zeros == found.bad == 0 and at - found.last <= LOST, f"{name}: {told}")
+    return there
