@@ -26,6 +26,8 @@ def clock(trial: Trial) -> None:
     for step in STEPS:
         began = time.monotonic()
         trial.machine.must(f'date --set "$(date) {step}"')
+        first = trial.status().splitlines()[:1]
+        trial.result.need("no keeper runs" not in " ".join(first), f"{step}: at once status begins: {first}")
         time.sleep(15)
         answers = client.since(began)
         trial.result.right(step, answers)
