@@ -22,7 +22,7 @@ def clock(trial: Trial) -> None:
     """The clock is set by seconds, days and years: no answer changes, and no alarm stands for days."""
     client = trial.served()
     time.sleep(20)
-    before = worst(client.since(time.monotonic() - 15))
+    before, well = worst(client.since(time.monotonic() - 15)), trial.level()
     for step in STEPS:
         began = time.monotonic()
         trial.machine.must(f'date --set "$(date) {step}"')
@@ -33,8 +33,7 @@ def clock(trial: Trial) -> None:
         trial.result.right(step, answers)
         moved, lacks = worst(answers) - before, sum(not one.has_time for one in answers)
         trial.result.need(abs(moved) <= MOVED and not lacks, f"{step}: {lacks} without the time; the worst moved by {moved * 1e3:+.1f} ms")
-    said = trial.status().splitlines()
-    trial.result.need(said[:1] != [] and said[0].startswith("OK"), f"status then begins: {said[:2]}")
+    trial.result.need(trial.level() == well, f"status was {well} before, and then {trial.level()}")
 
 
 def offset(trial: Trial) -> float:

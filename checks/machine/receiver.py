@@ -4,6 +4,7 @@ under way: while the machine stands still edges are lost, as on a wire.
 
 import datetime
 import multiprocessing
+import os
 import signal
 import socket
 import time
@@ -18,6 +19,7 @@ MODES = ("on", "dead", "inverted", "hum")
 HUM = 0.01  # half a period of the mains, in seconds
 LATE = 0.012  # how late a mark comes, as a receiver's filter makes it, in seconds
 STUCK = 5.0  # an edge that isn't confirmed for so long is given up, in seconds
+NICE = -15  # it takes little of a processor, and that at once
 PAST = 0.5  # an edge that is later than this isn't sent any more, in seconds
 
 
@@ -148,6 +150,7 @@ class Receiver:
 
     def _child(self, line: Line, plan: str, base: float, told: Connection) -> None:
         signal.signal(signal.SIGINT, signal.SIG_IGN)
+        os.nice(NICE)
         self.ours.close()
         drive(line, plan, base, told)
 

@@ -146,6 +146,10 @@ class Trial:
         told = self.machine.ask("radio_keeper status", 60)
         return str(told["text"]).strip() if told else "status gives no answer"
 
+    def level(self) -> str:
+        """The word that `radio_keeper status` begins with."""
+        return self.status().partition(":")[0]
+
     def journal(self, lines: int = 4) -> str:
         """The last lines of the unit's log."""
         told = self.machine.ask(f"journalctl -u radio_ntpd -n {lines} -o cat --no-pager", 60)
