@@ -213,7 +213,7 @@ class Words(unittest.TestCase):
     def test_the_pages_steps(self):
         page = evening.PAGE.read_text(encoding="utf-8")
         self.assertEqual(evening.step(page, 2).splitlines()[0], "timeout 10 gpiomon gpiochip0 17")
-        self.assertEqual(evening.step(page, 4), "radio_ntpd decode --plan dcf --log first.log")
+        self.assertEqual(evening.step(page, 4), "/usr/sbin/radio_ntpd decode --plan dcf --log first.log")
         feeder = "/usr/lib/radio_ntpd/feeders/edges_to_log.py"
         self.assertIn(f" {feeder} stdbuf -oL gpiomon", evening.step(page, 3))
         self.assertIn(f'"{feeder} stdbuf', evening.step(page, 6))

@@ -13,7 +13,7 @@ from lab.program import TOP
 PAGE = TOP / "docs" / "FIRST_EVENING.md"
 WATCHED = 60.0  # that a client asks once it has the time, in seconds
 # The page says what to write with the package in place of paths of the folder.
-PACKAGED = (("./radio_ntpd ", "radio_ntpd "), ("./radio_keeper ", "radio_keeper "), ("feeders/", "/usr/lib/radio_ntpd/feeders/"))
+PACKAGED = (("./radio_ntpd ", "/usr/sbin/radio_ntpd "), ("./radio_keeper ", "radio_keeper "), ("feeders/", "/usr/lib/radio_ntpd/feeders/"))
 # What the page says of the two files of a service.
 SERVICE = """sudo cp station.toml keeper.toml /etc/radio_ntpd/ &&
 sudo sed -i 's/^port = 12300/port = 123/' /etc/radio_ntpd/station.toml &&
