@@ -7,12 +7,12 @@ from types import TracebackType
 
 from checks.machine.client import Client, Judged
 from checks.machine.image import image
-from checks.machine.receiver import Figures, Receiver, log_before
+from checks.machine.receiver import LATE, Figures, Receiver, log_before
 from checks.machine.vm import Machine, accelerated
 from lab.held import Wrong
 from lab.kept import base_now
 
-STATION = 'bound = 1000\n[[radio]]\nplan = "dcf"\nlog = "x"\n[[link]]\nport = 123\n'
+STATION = f'bound = 1000\n[[radio]]\nplan = "dcf"\nlog = "x"\ndelay = {round(LATE * 1e6)}\n[[link]]\nport = 123\n'
 KEEPER = """station = "station.toml"
 state = "/var/lib/radio_ntpd"
 runtime = "/run/radio_ntpd"
