@@ -10,7 +10,8 @@ MOVED = 0.005  # by how much more than before answers may be off after a step of
 CHRONY = "port 0\nserver 127.0.0.1 iburst\nmakestep 0.1 3\nmaxslewrate 10\ndriftfile /var/lib/chrony/drift\n"
 STEERED = 600  # how long chronyd steers the machine's clock, in seconds
 NEAR = 0.01  # how far that clock is off at most by then, in seconds
-FULL, FROZEN = 60, 25  # how long the disk takes nothing, in seconds
+# How long the disk takes nothing, in seconds: in five minutes a log needs a new block.
+FULL, FROZEN = 300, 25
 SILENCE = 1.0  # the longest span without an answer that has the time, in seconds
 FILL = "runuser -u radio_ntpd -- dd if=/dev/zero of=/var/lib/radio_ntpd/filler bs=64k"
 # The receiver's mode, how long it lasts (s), and what `status` has to say of it.
