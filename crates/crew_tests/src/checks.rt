@@ -2,7 +2,7 @@
 
 use crate::fakes::CLIENT;
 use crate::stations::Done;
-use feed_link::Address;
+use outside_traits::Address;
 use feed_workers::{LogEnd, LogWork, PollWork};
 use journal_entry::{ENTRY_ROOM, Entry, write_entry};
 use memory_outside::{HoldGate, LinkEvent, MemoryLink};
@@ -61,7 +61,7 @@ pub fn same_count(rt: &impl Abort, name: &str, left: usize, right: usize) {
 }
 
 /// The radios have done this.
-pub fn have_heard(rt: &impl Abort, ended: &Done, want: &[LogWork]) {
+pub fn have_read(rt: &impl Abort, ended: &Done, want: &[LogWork]) {
     same(rt, ended.work.radios.as_slice(), want);
 }
 

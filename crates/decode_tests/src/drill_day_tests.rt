@@ -1,7 +1,7 @@
 //! Made days, against another program.
 use crate::shared::{SUM_OF_NONE, same, sum_on};
 use drill_day::make_logs;
-use feed_link::Source;
+use outside_traits::Source;
 use memory_links::SureSource;
 use std::process::Abort;
 use std::test::Fail;

@@ -2,7 +2,7 @@
 ghost use Rattle.std.specs.Prelude.{◌≤◌};
 
 use crate::shared::{SUM_OF_NONE, same, sum_on};
-use feed_link::Failed;
+use outside_traits::Failed;
 use memory_links::MemorySink;
 use pulse_maker::make;
 use std::alloc::Global;

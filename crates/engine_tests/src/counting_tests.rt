@@ -4,7 +4,7 @@ ghost use Rattle.memory_outside.specs.MemoryOutside.{is_gate_out};
 
 use crate::runs::{OF_A_PLAN, run_over, run_with, same};
 use crate::scene::outside_of;
-use feed_link::Gate;
+use outside_traits::Gate;
 use memory_links::MemorySink;
 use memory_outside::MemoryOutside;
 use radio_engine::Status;

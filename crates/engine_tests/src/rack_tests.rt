@@ -5,7 +5,7 @@ ghost use Rattle.radio_receiver.specs.Histories.{History};
 
 use crate::runs::{OF_A_PLAN, run_with, same};
 use crate::scene::outside_of;
-use feed_link::Gate;
+use outside_traits::Gate;
 use memory_links::MemorySink;
 use memory_outside::MemoryOutside;
 use radio_engine::Status;

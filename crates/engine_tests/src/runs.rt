@@ -3,7 +3,7 @@ ghost use Rattle.std.specs.Prelude.{◌≡◌, false};
 ghost use Rattle.memory_outside.specs.MemoryOutside.{is_gate_out};
 ghost use Rattle.receiver_rack.specs.Racks.{IsRack};
 
-use feed_link::Gate;
+use outside_traits::Gate;
 use memory_links::MemorySink;
 use memory_outside::MemoryOutside;
 use radio_engine::{Status, run_station};

@@ -13,7 +13,7 @@ use crate::ending::subject::Subject;
 use crate::ending::writing::finish;
 use crate::lines::write_entry_line;
 use crate::reading::{Gives, Line, Taker, ending_at, read_lines};
-use feed_link::{Failed, Outside, Sink, Source};
+use outside_traits::{Failed, Outside, Sink, Source};
 use file_reader::LogEnd;
 use journal_entry::Entry;
 use log_decoder::{LOG_LIMIT, LogDecoder};

@@ -9,7 +9,7 @@ ghost use Rattle.file_commands.specs.JournalTaking.{IsEven, IsMovedBy};
 ghost use Rattle.file_commands.specs.Unopened.{Lacks};
 ghost use Rattle.file_commands.specs.StationFile.{IsObstacle};
 ghost use Rattle.station_reader.specs.Faults.{Says};
-ghost use Rattle.station_config.specs.Station.{StationFields};
+ghost use Rattle.station_values.specs.Station.{StationFields};
 
 mod lines;
 mod mover;
@@ -22,7 +22,7 @@ use crate::ending::writing::finish;
 use crate::reading::{ending_at, read_lines};
 use crate::station_file::obstacle::{Obstacle, finish_at};
 use crate::station_file::{STATION_LIMIT, judge, open_station};
-use feed_link::{Failed, Outside, Sink, Source};
+use outside_traits::{Failed, Outside, Sink, Source};
 use file_reader::{FileEnd, LogEnd};
 use lines::Mover;
 use mover::{JournalMover, MOST_LINES};

@@ -7,7 +7,7 @@ mod taking;
 
 use crate::ending::Ending;
 use crate::ending::subject::Subject;
-use feed_link::{Failed, Sink};
+use outside_traits::{Failed, Sink};
 use file_reader::LogEnd;
 use journal_entry::LINE_ROOM;
 use pulse_log::BadLine;

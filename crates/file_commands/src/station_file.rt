@@ -9,10 +9,10 @@ pub mod obstacle;
 
 use crate::ending::Ending;
 use crate::ending::subject::Subject;
-use feed_link::{Failed, Outside};
+use outside_traits::{Failed, Outside};
 use file_reader::{FileEnd, read_whole};
 use obstacle::Obstacle;
-use station_config::Station;
+use station_values::Station;
 use station_reader::{StationFault, read_station};
 use std::alloc::Global;
 

@@ -3,7 +3,7 @@ ghost use Rattle.std.specs.Prelude.{◌≡◌, ◌<◌, Some, None};
 ghost use Rattle.poll_core.specs.Polling.{asked_at};
 
 use crate::shared::{longer, moment, same};
-use feed_link::Address;
+use outside_traits::Address;
 use memory_outside::ANSWER;
 use poll_core::{Poll, PollRefusal};
 use std::process::Abort;

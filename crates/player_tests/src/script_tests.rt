@@ -10,8 +10,8 @@ use memory_outside::{NOON, REQUEST_DIGITS};
 use radio_receiver::{DcfReceiver, MsfReceiver, Receiver, WwvbReceiver};
 use receiver_rack::put_in_rack;
 use script_line::read_line;
-use script_player::{BoxedReceiver, NotLawful, Outcome, Player, write_outcome};
-use station_config::Station;
+use script_player::{BoxedReceiver, Invalid, Outcome, Player, write_outcome};
+use station_values::Station;
 use station_reader::read_station;
 use std::alloc::{AllocError, Global};
 use std::process::Abort;
@@ -77,7 +77,7 @@ fn play_lines(
         };
         match player.play(&line) {
             Ok(outcome) => write_line(&mut text, &outcome),
-            Err(NotLawful) => {
+            Err(Invalid) => {
                 let _ = write!(text, "{number} is not valid\n");
             }
         }
@@ -228,7 +228,7 @@ const NOT_LAWFUL: &str =
 
 // Feed 0 is a radio, feed 1 a server, and there is no other.
 #[test]
-fn lines_of_other_feeds_are_not_lawful(rt: HostRuntime) {
+fn lines_of_other_feeds_are_not_valid(rt: HostRuntime) {
     let script = [
         OF_OTHER_FEEDS,
         "request 7 1 1 00\npulse 0 1 1\nanswer 1 1 00\n",

@@ -13,7 +13,7 @@ ghost use Rattle.file_commands.specs.Writing.{Answers};
 ghost use Rattle.file_commands.specs.declared.ending.Ending.TheVariants.{NoMemory};
 ghost use Rattle.file_commands.specs.declared.ending.status.Status.{Status};
 
-use feed_link::{Outside, Sink};
+use outside_traits::{Outside, Sink};
 use host_arguments::{arguments_of, texts_of};
 use host_links::{HostOutside, StreamSink};
 use radio_engine::{Status, end_without_memory, run_station};

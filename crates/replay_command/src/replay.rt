@@ -12,11 +12,11 @@ ghost use Rattle.receiver_rack.specs.Racks.{IsRack};
 ghost use Rattle.script_player.specs.KeptPlayer.{HasPlayed, IsReady};
 ghost use Rattle.script_player.specs.Replay.{case_of};
 ghost use Rattle.station_reader.specs.Faults.{Says};
-ghost use Rattle.station_config.specs.Station.{StationFields};
+ghost use Rattle.station_values.specs.Station.{StationFields};
 
 mod replayer;
 
-use feed_link::{Failed, Outside, Sink, Source};
+use outside_traits::{Failed, Outside, Sink, Source};
 use file_commands::{
     Ending, Obstacle, STATION_LIMIT, Status, Subject, ending_at, finish, finish_at, finish_page,
     judge, open_station, read_lines,

@@ -3,7 +3,7 @@
 ghost use Rattle.std.specs.Prelude.{◌≡◌};
 
 use crate::shared::{alone, without_sources};
-use feed_link::{Address, Link, OpenGate};
+use outside_traits::{Address, Link, OpenGate};
 use kiss_gate::{ClientGate, DenyList, GateOpen};
 use memory_outside::{MemoryLink, Planned, REQUEST};
 use packet_auth::KeyRing;

@@ -10,7 +10,7 @@ use super::status::Status;
 use super::writing::finish;
 use crate::reading::Line;
 use clock_page::Page;
-use feed_link::{Failed, Sink};
+use outside_traits::{Failed, Sink};
 use journal_entry::LINE_ROOM;
 use sink_text::write_all;
 use system_fold::write_page;

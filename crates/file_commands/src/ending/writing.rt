@@ -6,7 +6,7 @@ ghost use Rattle.file_commands.specs.Writing.{Answers};
 use super::status::Status;
 use super::text::status_text;
 use super::{Ending, status_by};
-use feed_link::{Failed, Sink};
+use outside_traits::{Failed, Sink};
 use sink_text::write_all;
 
 /// Writes the status line. The answer is the status, or a write fault.

@@ -1,7 +1,7 @@
 //! What keeps a station file from being used, and the lines that report it.
 
 ghost use Rattle.std.specs.Prelude.{◌++◌, codes};
-ghost use Rattle.file_commands.specs.StationFile.{IsNamed, IsTold, many_line, station_line, status_at, line_at};
+ghost use Rattle.file_commands.specs.StationFile.{IsNamed, IsReported, many_line, station_line, status_at, line_at};
 ghost use Rattle.file_commands.specs.Writing.{Answers};
 ghost use Rattle.file_commands.specs.declared.ending.status.Status.TheVariants.{Station};
 
@@ -9,7 +9,7 @@ use crate::ending::Ending;
 use crate::ending::status::Status;
 use crate::ending::text::count_text;
 use crate::ending::writing::finish;
-use feed_link::{Failed, Sink};
+use outside_traits::{Failed, Sink};
 use sink_text::write_all;
 use station_reader::{KeyText, StationFault};
 
@@ -51,10 +51,10 @@ fn end_three<K: Sink>(out: &mut K, first: &[u8], second: &[u8], third: &[u8]) ->
 }
 
 // The status line of a fault at a key, which may be long.
-fn end_at_key<K: Sink>(front: &[u8], key: &KeyText, out: &mut K) -> Status
-    ensures { Answers Station result (K.state out.old) (K.state out.new) (front.now ++ (key.now ++ codes "\n")) }
+fn end_at_key<K: Sink>(prefix: &[u8], key: &KeyText, out: &mut K) -> Status
+    ensures { Answers Station result (K.state out.old) (K.state out.new) (prefix.now ++ (key.now ++ codes "\n")) }
 {
-    end_three(out, front, key.bytes(), b"\n")
+    end_three(out, prefix, key.bytes(), b"\n")
 }
 
 // The status line of a key of which there are too many, with a text of their number.
@@ -87,7 +87,7 @@ fn finish_faulty<K: Sink>(fault: &StationFault, out: &mut K) -> Status
 
 /// Writes the status line of a run that an obstacle ends. The answer is its status, or a write fault.
 pub fn finish_at<K: Sink>(obstacle: &Obstacle, out: &mut K) -> Status
-    ensures { IsTold obstacle.now →
+    ensures { IsReported obstacle.now →
         Answers (status_at obstacle.now) result (K.state out.old) (K.state out.new) (line_at obstacle.now) }
 {
     match obstacle {

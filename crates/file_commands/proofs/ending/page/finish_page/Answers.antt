@@ -2,8 +2,8 @@
 use Rattle.std.proofs.Common.{ℕ, List, subst}
 use Rattle.file_commands.specs.Endings.{status_of, status_line}
 use Rattle.file_commands.specs.Text.{page_text}
-use Rattle.sink_text.specs.Writing.{WritesAll, WritesFront}
-use Rattle.file_commands.proofs.WritingLaws.{answers_more, answers_front}
+use Rattle.sink_text.specs.Writing.{WritesAll, WritesPrefix}
+use Rattle.file_commands.proofs.WritingLaws.{answers_more, answers_prefix}
 use Rattle.file_commands.proofs.ending.page.finish_page.Goals as goal
 
 pub returns-in-Ok : goal.returns-in-Ok
@@ -11,5 +11,5 @@ returns-in-Ok g c = answers_more (status_of c.args.ending) _ _ _ _ (page_text c.
     (subst (λ (t : List ℕ). WritesAll (g.K.Sink.state c.args.out.now) (g.K.Sink.state c.write_all.new.out) t) c.write_page_line-length.ensures.text c.in-Ok.ensures.ok) c.finish.ensures
 
 pub returns-in-Err : goal.returns-in-Err
-returns-in-Err g c = answers_front (status_of c.args.ending) _ _ (page_text c.args.page.now) (status_line c.args.ending)
-    (subst (λ (t : List ℕ). WritesFront (g.K.Sink.state c.args.out.now) (g.K.Sink.state c.write_all.new.out) t) c.write_page_line-length.ensures.text c.in-Err.ensures.err)
+returns-in-Err g c = answers_prefix (status_of c.args.ending) _ _ (page_text c.args.page.now) (status_line c.args.ending)
+    (subst (λ (t : List ℕ). WritesPrefix (g.K.Sink.state c.args.out.now) (g.K.Sink.state c.write_all.new.out) t) c.write_page_line-length.ensures.text c.in-Err.ensures.err)
