@@ -5,8 +5,8 @@ ghost use Rattle.journal_entry.specs.declared.entry.Entry.{Entry};
 ghost use Rattle.feed_workers.specs.Keeping.{IsOfFeed, Keeps, share_of};
 ghost use Rattle.page_cell.specs.declared.view.Claim.{Claim};
 
-use outside_traits::Gate;
 use journal_entry::Entry;
+use outside_traits::Gate;
 use page_cell::FeedPass;
 use std::sync::Wait;
 use verdict_journal::{Hub, HubName};

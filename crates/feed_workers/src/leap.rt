@@ -14,10 +14,10 @@ ghost use Rattle.tick_units.specs.Years.{end_of_supported};
 
 use crate::keeping::{Post, Recorder};
 use crate::work::LogWork;
-use outside_traits::{Gate, Source};
 use file_reader::{FileEnd, LogEnd, PieceTaker, read_pieces};
 use journal_entry::{Entry, What};
 use leap_file::{BadLeap, LeapReader};
+use outside_traits::{Gate, Source};
 use page_cell::FeedPass;
 use std::sync::Wait;
 use tick_units::Local;

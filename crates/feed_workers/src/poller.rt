@@ -16,8 +16,8 @@ ghost use Rattle.poll_core.specs.Polling.{HasPolled, asked_at};
 
 use crate::keeping::{Post, Recorder};
 use crate::work::{PollEnd, PollWork};
-use outside_traits::{Address, Arrival, Failed, Gate, Hearing, Link};
 use journal_entry::{Entry, What};
+use outside_traits::{Address, Arrival, Failed, Gate, Hearing, Link};
 use page_cell::FeedPass;
 use poll_core::Poll;
 use std::sync::Wait;

@@ -11,9 +11,9 @@ ghost use Rattle.tick_units.specs.declared.marks.Plan.{Plan};
 
 use crate::keeping::{Post, Recorder};
 use crate::work::LogWork;
-use outside_traits::{Gate, Source};
 use file_reader::{FileEnd, LogEnd, PieceTaker, read_pieces};
 use log_decoder::{LOG_LIMIT, LogDecoder};
+use outside_traits::{Gate, Source};
 use page_cell::FeedPass;
 use pulse_log::Taken;
 use radio_receiver::{BoxedReceiver, Receiver};

@@ -22,10 +22,10 @@ use crate::ending::writing::finish;
 use crate::reading::{ending_at, read_lines};
 use crate::station_file::obstacle::{Obstacle, finish_at};
 use crate::station_file::{STATION_LIMIT, judge, open_station};
-use outside_traits::{Failed, Outside, Sink, Source};
 use file_reader::{FileEnd, LogEnd};
 use lines::Mover;
 use mover::{JournalMover, MOST_LINES};
+use outside_traits::{Failed, Outside, Sink, Source};
 use std::alloc::Global;
 
 /// The most bytes of a journal.

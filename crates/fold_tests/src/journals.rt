@@ -6,8 +6,8 @@ ghost use Rattle.system_fold.specs.Settings.{AreValid, IsJournal, IsKept};
 
 use crate::shared::same;
 use clock_page::Page;
-use outside_traits::Address;
 use journal_entry::{ENTRY_ROOM, Entry, What, read_entry};
+use outside_traits::Address;
 use std::alloc::Global;
 use std::process::Abort;
 use system_fold::{Settings, SourceKind, page_by_steps, page_from_scratch, page_text};

@@ -7,17 +7,17 @@
 mod entry;
 mod fields;
 mod keywords;
-mod valid;
 mod line;
 mod numbered;
 mod read;
+mod valid;
 mod write;
 mod writer;
 
 pub use entry::{Entry, What};
-pub use valid::is_valid;
 pub use line::{Form, JournalLine, read_line};
 pub use numbered::Numbered;
 pub use read::{read_entry, read_numbered};
+pub use valid::is_valid;
 pub use write::{write_entry, write_numbered, write_unnumbered};
 pub use writer::{ENTRY_ROOM, LINE_ROOM, TextWriter};

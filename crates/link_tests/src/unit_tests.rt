@@ -4,8 +4,8 @@ ghost use Rattle.std.specs.Prelude.{◌<◌};
 use std::fmt::Debug;
 use std::process::Abort;
 use tick_units::{
-    END_OF_SUPPORTED, FIRST_SUPPORTED, LEAST_DISPERSION, Local, Plan, Short, Span, Stamp, is_supported, isqrt,
-    local_span, phi, stamp_of, to_short,
+    END_OF_SUPPORTED, FIRST_SUPPORTED, LEAST_DISPERSION, Local, Plan, Short, Span, Stamp,
+    is_supported, isqrt, local_span, phi, stamp_of, to_short,
 };
 
 // Does what `assert_eq!` does, as a call. In a test with many of them, calls are proved in a third of the time.
@@ -220,7 +220,11 @@ fn is_in_century(rt: &impl Abort, second: u64, supported: bool) {
 #[test]
 fn seconds_are_supported_in_a_century(rt: HostRuntime) {
     same(&rt, FIRST_SUPPORTED, 3_155_587_200);
-    same(&rt, END_OF_SUPPORTED, FIRST_SUPPORTED + (1 + 36_525 + 2) * 86_400);
+    same(
+        &rt,
+        END_OF_SUPPORTED,
+        FIRST_SUPPORTED + (1 + 36_525 + 2) * 86_400,
+    );
     is_in_century(&rt, 0, false);
     is_in_century(&rt, FIRST_SUPPORTED - 1, false);
     is_in_century(&rt, FIRST_SUPPORTED, true);

@@ -8,8 +8,8 @@ ghost use Rattle.memory_links.specs.Calls.{AreStated, IsCalled, fails_next};
 
 use crate::book::{Book, EventRoom};
 use crate::{FakeOpen, LinkEvent, Planned};
-use outside_traits::{Address, Arrival, Failed, Hearing, Link};
 use memory_links::Calls;
+use outside_traits::{Address, Arrival, Failed, Hearing, Link};
 use std::alloc::Global;
 use tick_units::Local;
 

@@ -6,8 +6,8 @@ ghost use Rattle.memory_links.specs.Calls.{AreStated, IsCalled, fails_next};
 
 use crate::ledger::{Ledger, Room, Seen};
 use crate::{MemoryLink, MemorySource};
-use outside_traits::{Failed, Gate, Outside};
 use memory_links::Calls;
+use outside_traits::{Failed, Gate, Outside};
 use std::alloc::{AllocError, AllocFailed, Global};
 use std::snapshot::Snapshot;
 use tick_units::Local;

@@ -4,8 +4,8 @@ ghost use Rattle.outside_traits.specs.Faults.{HasCause};
 ghost use Rattle.outside_traits.specs.States.{Reads};
 ghost use Rattle.memory_links.specs.Calls.{AreStated, IsCalled, fails_next};
 
-use outside_traits::{Failed, Source};
 use memory_links::Calls;
+use outside_traits::{Failed, Source};
 
 /// A log in memory, of which stated calls of `read` fail.
 #[derive(Drop)]

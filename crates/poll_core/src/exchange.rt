@@ -6,8 +6,8 @@ ghost use Rattle.tick_units.specs.Samples.{IsValid};
 ghost use Rattle.poll_core.specs.Formulas.{span_of, precision_units, sample_of};
 
 use civil_minute::unwrap_era;
-use outside_traits::Address;
 use ntp_packet::{Header, PRECISION_UNITS};
+use outside_traits::Address;
 use tick_units::{Local, Sample, Span, Stamp, local_span, phi};
 
 // A server's precision in log2 seconds counts as 2^4 s at most.

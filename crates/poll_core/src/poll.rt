@@ -11,8 +11,8 @@ ghost use Rattle.poll_core.specs.Refusals.{table, first_refusal};
 use crate::checks::{check_exchange, check_server};
 use crate::exchange::Exchange;
 use crate::{PollRefusal, request};
-use outside_traits::Address;
 use ntp_packet::{HEADER_LENGTH, read};
+use outside_traits::Address;
 use tick_units::{Local, Sample, Stamp};
 
 /// The exchanges of one poller with one server (RFC 5905, section 8).

@@ -10,15 +10,15 @@ ghost use Rattle.crew_work.specs.Served.{AreBlank};
 ghost use Rattle.station_gear.specs.Opens.{IsWhole};
 
 use drill_day::make_logs;
-use outside_traits::{Outside, Sink};
 use file_commands::{Ending, Status, finish};
 use memory_links::SureSource;
+use outside_traits::{Outside, Sink};
 use radio_receiver::{BoxedReceiver, Receiver};
 use receiver_rack::fit_radios;
-use station_values::Station;
 use station_crew::{Budget, Ended, Equipment, Orders, serve_station};
 use station_gear::Gear;
 use station_report::{Done, finish_drilled};
+use station_values::Station;
 use std::alloc::{AllocError, Global};
 use std::sync::Wait;
 use std::thread::Threads;

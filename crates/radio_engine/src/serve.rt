@@ -8,16 +8,16 @@ ghost use Rattle.receiver_rack.specs.Racks.{IsRack};
 ghost use Rattle.crew_work.specs.Served.{AreBlank};
 ghost use Rattle.station_gear.specs.Gears.{IsEmptyFor};
 
-use outside_traits::{Outside, Sink};
 use file_commands::{
     Ending, STATION_LIMIT, Status, Subject, finish, finish_at, judge, open_station,
 };
+use outside_traits::{Outside, Sink};
 use radio_receiver::{BoxedReceiver, Receiver};
 use receiver_rack::fit_radios;
-use station_values::Station;
 use station_crew::{Ended, Equipment, Orders, serve_station};
 use station_gear::{Gear, Missing, give_back_gear, open_gear};
 use station_report::{Done, finish_served, leap_feed};
+use station_values::Station;
 use std::alloc::{AllocError, Global};
 use std::sync::Wait;
 use std::thread::Threads;

@@ -13,9 +13,9 @@ ghost use Rattle.file_commands.specs.Writing.{Answers};
 ghost use Rattle.file_commands.specs.declared.ending.Ending.TheVariants.{NoMemory};
 ghost use Rattle.file_commands.specs.declared.ending.status.Status.{Status};
 
-use outside_traits::{Outside, Sink};
 use host_arguments::{arguments_of, texts_of};
 use host_links::{HostOutside, StreamSink};
+use outside_traits::{Outside, Sink};
 use radio_engine::{Status, end_without_memory, run_station};
 use radio_receiver::{DcfReceiver, MsfReceiver, Receiver, WwvbReceiver};
 use receiver_rack::put_in_rack;

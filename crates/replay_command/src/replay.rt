@@ -16,12 +16,12 @@ ghost use Rattle.station_values.specs.Station.{StationFields};
 
 mod replayer;
 
-use outside_traits::{Failed, Outside, Sink, Source};
 use file_commands::{
     Ending, Obstacle, STATION_LIMIT, Status, Subject, ending_at, finish, finish_at, finish_page,
     judge, open_station, read_lines,
 };
 use file_reader::{FileEnd, LogEnd};
+use outside_traits::{Failed, Outside, Sink, Source};
 use radio_receiver::Receiver;
 use replayer::Replayer;
 use script_player::{BoxedReceiver, Player};

@@ -7,8 +7,8 @@ ghost use Rattle.responder.specs.Serving.{Serves};
 ghost use Rattle.responder.specs.Steps.{Goes, Stops, StopsUnsent, HasRoom};
 
 use crate::{End, Responder, Served};
-use outside_traits::{Arrival, Failed, Gate, Hearing, Link};
 use kiss_gate::ClientGate;
+use outside_traits::{Arrival, Failed, Gate, Hearing, Link};
 use packet_auth::KeyRing;
 use page_cell::{PageCell, ReadPass};
 use sealed_reply::{Reply, Request};

@@ -12,8 +12,8 @@ use standard_error::{
     Place, Report, SAMPLE_BYTES, Subject, TOML_LINE, TomlFault, Watched, bad_line_number,
     is_bad_line, no_minute_text, read_arguments, subject_of, toml_fault, value_of,
 };
-use station_values::Station;
 use station_reader::read_station;
+use station_values::Station;
 use std::alloc::{AllocError, Global};
 use std::fs::{self, Files};
 use std::io::{Eprint, Read, Write};

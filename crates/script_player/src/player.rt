@@ -144,12 +144,7 @@ impl Player<BoxedReceiver> {
     }
 
     // A datagram comes from a server.
-    fn answer(
-        &mut self,
-        feed: u32,
-        at: Local,
-        datagram: &Datagram<'_>,
-    ) -> Result<Outcome, Invalid>
+    fn answer(&mut self, feed: u32, at: Local, datagram: &Datagram<'_>) -> Result<Outcome, Invalid>
         requires { IsReady least_start self.old }
         ensures ready { IsReady least_start self.new }
         ensures plays { (of : ReplayCase) (before : List Played) → HasPlayed stands_for self.old of before →

@@ -9,8 +9,8 @@ ghost use Rattle.ntp_packet.specs.Layout.{layout};
 ghost use Rattle.journal_entry.specs.Valid.{IsValidWhat};
 ghost use Rattle.outside_traits.specs.declared.outside.Address.{Address};
 
-use outside_traits::Address;
 use journal_entry::What;
+use outside_traits::Address;
 use poll_core::Poll;
 use tick_units::Local;
 

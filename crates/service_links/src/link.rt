@@ -10,10 +10,10 @@ ghost use Rattle.service_links.specs.Paces.{after_kiss, asked_at, heeding, is_ne
 ghost use Rattle.service_links.specs.declared.link.Waited.TheVariants.{Silence, Over};
 
 use crate::{Asking, Pace, Watch};
-use outside_traits::{Address, Arrival, Failed, Hearing, Link};
 use host_links::{
     DatagramSocket, Received, moment_at, receive_once, send_whole, whole_microseconds,
 };
+use outside_traits::{Address, Arrival, Failed, Hearing, Link};
 use std::thread;
 use std::time::{Clock, Duration};
 use tick_units::Local;

@@ -8,8 +8,8 @@ ghost use Rattle.host_links.specs.Real.{host_state, socket_state, file_number};
 ghost use Rattle.service_links.specs.Paces.{new_asking};
 
 use crate::{Handed, HandedSocket, Pace, Reason, ServiceLink, Watch};
-use outside_traits::{Failed, OpenGate, Outside};
 use host_links::{FileSource, Refusal};
+use outside_traits::{Failed, OpenGate, Outside};
 use std::fs;
 use std::io::{self, Eprint, ErrorKind};
 use std::net::{IpAddr, Ipv4Addr, Net, SocketAddr};

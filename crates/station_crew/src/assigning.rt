@@ -17,14 +17,14 @@ ghost use Rattle.crew_work.specs.Lists.{Pairs};
 use crate::crew::{Crew, Equipment, Passes};
 use crate::jobs::{LeapJob, PollJob, RadioJob, ServeJob};
 use crew_work::LinkWork;
-use outside_traits::{Link, Source};
 use feed_workers::{LeapWorker, LogEnd, LogWork, PollEnd, PollWork, PollWorker, RadioWorker};
 use kiss_gate::ClientGate;
+use outside_traits::{Link, Source};
 use page_cell::{FeedPass, ReadPass};
 use radio_receiver::{BoxedReceiver, Receiver};
 use responder::{End, Responder, Served};
-use station_values::{ServerRow, Station};
 use station_gear::Gear;
+use station_values::{ServerRow, Station};
 use tick_units::Local;
 
 // The result of a worker that has not run yet.

@@ -5,11 +5,11 @@ ghost use Rattle.station_crew.specs.Crews.{FeedsCollected, HasRoomForServed, Has
 ghost use Rattle.station_crew.specs.Collecting.{file_of, leap_pass, link_of, log_of, poll_pass};
 ghost use Rattle.station_crew.specs.Collecting.{radio_pass, serve_pass, server_link};
 
-use crate::crew::{Crew, Collected};
+use crate::crew::{Collected, Crew};
 use crate::jobs::{LeapJob, PollJob, RadioJob, ServeJob};
 use crew_work::LinkWork;
-use outside_traits::{Link, Source};
 use feed_workers::{LogWork, PollWork};
+use outside_traits::{Link, Source};
 use page_cell::{FeedPass, ReadPass};
 
 // The radios' workers give back their logs, what they did, and their passes.

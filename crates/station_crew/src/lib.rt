@@ -6,14 +6,14 @@
 //! (what the workers give back). `crew` and `jobs` have what these pass on.
 #![tactic(auto)]
 
-mod crew;
-mod jobs;
-mod collecting;
 mod assigning;
+mod collecting;
+mod crew;
+mod informing;
+mod jobs;
 mod named;
 mod phases;
 mod station;
-mod informing;
 
 pub use crew::{Ended, Equipment};
 pub use crew_work::{Budget, LinkWork, Orders, Work};

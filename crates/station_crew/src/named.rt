@@ -9,16 +9,16 @@ ghost use Rattle.station_gear.specs.Opens.{IsWhole};
 ghost use Rattle.crew_work.specs.Served.{AreBlank, IsJournalOf, LeapServed, LinksServed, RadiosServed, ServersServed};
 ghost use Rattle.crew_work.specs.Served.{column_of, seen, service_of};
 
-use crate::crew::{Ended, Equipment, Collected, Passes, Reserved};
-use crate::collecting::{collect_feeds, collect_responders};
 use crate::assigning::assign_crew;
-use crate::phases::{run_first, run_second};
+use crate::collecting::{collect_feeds, collect_responders};
+use crate::crew::{Collected, Ended, Equipment, Passes, Reserved};
 use crate::informing::inform_responders;
+use crate::phases::{run_first, run_second};
 use crew_work::Orders;
 use outside_traits::{Gate, Link, Source};
 use radio_receiver::{BoxedReceiver, Receiver};
-use station_values::Station;
 use station_gear::Gear;
+use station_values::Station;
 use std::sync::Wait;
 use std::thread::Threads;
 use verdict_journal::{Hub, HubName, HubParts};
@@ -89,7 +89,12 @@ pub fn serve_named<
     let mut crew = assign_crew(station, equipment, Passes { feeds, readers }, gates, crew);
     run_first(rt, &hub, gate, orders.budget.during, &mut crew);
     let (responders, mut collected) = collect_feeds(crew, collected);
-    inform_responders(hub.cell(), &mut collected.passes.feeds, responders, &mut informed);
+    inform_responders(
+        hub.cell(),
+        &mut collected.passes.feeds,
+        responders,
+        &mut informed,
+    );
     run_second(rt, &hub, gate, orders.budget.after, &mut informed);
     collect_responders(
         informed,

@@ -7,15 +7,15 @@ ghost use Rattle.station_gear.specs.Opens.{IsWhole};
 ghost use Rattle.crew_work.specs.Served.{AreBlank, IsJournalOf, LeapServed, LinksServed, RadiosServed, ServersServed};
 ghost use Rattle.crew_work.specs.Served.{column_of, seen, service_of};
 
-use crate::crew::{Crew, Ended, Equipment, Collected, Passes, Reserved};
+use crate::crew::{Collected, Crew, Ended, Equipment, Passes, Reserved};
 use crate::named::serve_named;
 use crew_work::{Orders, Work};
-use outside_traits::{Gate, Link, Source};
 use kiss_gate::{ClientGate, GateOpen};
+use outside_traits::{Gate, Link, Source};
 use page_cell::{CellParts, PageCell};
 use radio_receiver::{BoxedReceiver, Receiver};
-use station_values::Station;
 use station_gear::Gear;
+use station_values::Station;
 use std::alloc::{AllocError, Global};
 use std::marker::Brand;
 use std::sync::Wait;
@@ -77,7 +77,10 @@ fn make_passes(alloc: Global, counts: Counts) -> Result<Passes, AllocError>
 }
 
 // Room for what the workers leave.
-fn make_collected<L: Drop, T: Drop>(alloc: Global, counts: Counts) -> Result<Collected<L, T>, AllocError>
+fn make_collected<L: Drop, T: Drop>(
+    alloc: Global,
+    counts: Counts,
+) -> Result<Collected<L, T>, AllocError>
     requires { counts.radios + counts.servers < 2 ^ 63 }
     ensures { IfOk result (HasRoomToCollect counts.radios counts.servers counts.links) }
 {

@@ -8,9 +8,9 @@ ghost use Rattle.sink_text.specs.Writing.{WritesAll, WritesPrefix};
 
 use crate::cause::ending_of;
 use crate::done::Done;
-use outside_traits::{Failed, Sink};
 use file_commands::{Line, Status, finish_page};
 use journal_entry::{Entry, LINE_ROOM, TextWriter, What};
+use outside_traits::{Failed, Sink};
 use sink_text::write_all;
 use station_values::Station;
 use tick_units::Kind;

@@ -9,8 +9,8 @@ ghost use Rattle.station_values.specs.KeptStation.{key_kept, net_kept, parts_fie
 
 use crate::denied_net::DeniedNet;
 use crate::shared_key::SharedKey;
-use outside_traits::Address;
 use kiss_gate::DenyList;
+use outside_traits::Address;
 use packet_auth::KeyRing;
 use std::marker::Model;
 use system_fold::{Settings, SourceKind};

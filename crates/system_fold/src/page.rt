@@ -54,7 +54,13 @@ fn root_disp_of(peer: &Source, now: Local) -> Short
 }
 
 // The page that gives the time by the sources that are left.
-fn synchronised_by(inputs: &PageInputs, peer: &Source, fresh: Local, root_disp: Short, offset: Span) -> Page
+fn synchronised_by(
+    inputs: &PageInputs,
+    peer: &Source,
+    fresh: Local,
+    root_disp: Short,
+    offset: Span,
+) -> Page
     requires inputs { AreBounded inputs.now }
     requires peer { IsFit inputs.now.moment peer.now }
     requires offset { IsLength offset }

@@ -2,8 +2,8 @@
 ghost use Rattle.memory_links.specs.Memory.{sink_state};
 
 use crate::shared::same;
-use outside_traits::{Failed, Sink};
 use memory_links::MemorySink;
+use outside_traits::{Failed, Sink};
 use sink_text::write_all;
 use std::alloc::{AllocError, Global};
 use std::process::Abort;

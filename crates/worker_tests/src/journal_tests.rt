@@ -4,7 +4,7 @@ ghost use Rattle.feed_workers.specs.Keeping.{IsOfFeed};
 ghost use Rattle.page_cell.specs.Passes.{claim_of, key_of};
 ghost use Rattle.system_fold.specs.Settings.{AreValid};
 
-use crate::minutes::{append_all, of_radios, enter};
+use crate::minutes::{append_all, enter, of_radios};
 use crate::shared::{Work, pop_feed, put_back, run_alone, same};
 use page_cell::{CellParts, FeedPass, PageCell};
 use std::alloc::Global;

@@ -3,9 +3,9 @@
 ghost use Rattle.std.specs.Prelude.{◌<◌, ◌≤◌};
 
 use crate::shared::{Work, alone, has_lines, moment, run_alone, same};
-use outside_traits::OpenGate;
 use feed_workers::{LeapWorker, LogEnd, LogWork};
 use memory_outside::MemorySource;
+use outside_traits::OpenGate;
 use page_cell::FeedPass;
 use std::alloc::Global;
 use std::process::Abort;

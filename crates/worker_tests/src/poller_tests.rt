@@ -8,9 +8,9 @@ use crate::shared::{
     address_of, alone, has_lines, host_link, loopback_socket, moment, pop_feed, put_back, same,
     settings_of, text_of,
 };
-use outside_traits::{Address, Link, OpenGate};
 use feed_workers::{PollEnd, PollWork, PollWorker};
 use memory_outside::{ANSWER, MemoryLink, Planned};
+use outside_traits::{Address, Link, OpenGate};
 use page_cell::{CellParts, FeedPass, PageCell};
 use std::alloc::Global;
 use std::marker::Brand;

@@ -4,9 +4,9 @@ ghost use Rattle.feed_workers.specs.Keeping.{IsOfFeed};
 ghost use Rattle.page_cell.specs.Passes.{claim_of};
 
 use crate::shared::{Work, alone, has_lines, run_alone, same};
-use outside_traits::{OpenGate, Source};
 use feed_workers::{LogEnd, LogWork, RadioWorker};
 use memory_outside::{MemorySource, NOON_0, NOON_1};
+use outside_traits::{OpenGate, Source};
 use page_cell::FeedPass;
 use radio_receiver::{DcfReceiver, Receiver};
 use std::alloc::Global;

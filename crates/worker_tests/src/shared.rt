@@ -5,9 +5,9 @@ ghost use Rattle.feed_workers.specs.Keeping.{IsOfFeed};
 ghost use Rattle.page_cell.specs.Passes.{claim_of, key_of};
 ghost use Rattle.system_fold.specs.Settings.{AreValid};
 
-use outside_traits::{Address, Outside};
 use host_links::{HostOutside, UdpLink};
 use journal_entry::{ENTRY_ROOM, Entry, write_entry};
+use outside_traits::{Address, Outside};
 use page_cell::{CellParts, FeedPass, PageCell};
 use std::alloc::Global;
 use std::fmt::Debug;

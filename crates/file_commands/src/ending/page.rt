@@ -10,8 +10,8 @@ use super::status::Status;
 use super::writing::finish;
 use crate::reading::Line;
 use clock_page::Page;
-use outside_traits::{Failed, Sink};
 use journal_entry::LINE_ROOM;
+use outside_traits::{Failed, Sink};
 use sink_text::write_all;
 use system_fold::write_page;
 

@@ -35,7 +35,8 @@ fn reports(line: &JournalLine, numbered: &Numbered) -> bool
 {
     match line {
         JournalLine::Bare(_) => true,
-        JournalLine::Numbered(reported) => reported.length == numbered.length && reported.rate == numbered.rate,
+        JournalLine::Numbered(reported) => reported.length == numbered.length
+            && reported.rate == numbered.rate,
     }
 }
 

@@ -10,9 +10,9 @@ ghost use Rattle.file_reader.specs.Pieces.{EndsPieces};
 ghost use Rattle.sink_text.specs.Writing.{WritesAll};
 
 use crate::reading::{Gives, Line, Stop, write_given};
-use outside_traits::{Failed, Sink, Source};
 use file_reader::{FileEnd, LogEnd, PieceTaker, read_pieces};
 use journal_entry::LINE_ROOM;
+use outside_traits::{Failed, Sink, Source};
 use pulse_log::Taken;
 
 /// Takes the bytes of a kind of file as they come, and gives their text, up to the first bad line.
