@@ -58,7 +58,7 @@ USERS = (("link_tests", "outside_traits", "feed_link"), ("config_tests", "statio
 PAGE_EDITS = (
     ("docs/DECISIONS.md", "So `outside_traits` has the traits of the outside alone, and its adapters, fakes and\n  readers are crates above it.",
      "So `outside_traits` has the traits of the outside alone, and its adapters, fakes and\n  readers are crates above it. `feed_link` hands on all of"
-     " these, and `station_config` a station with its reader, for who wants one name."),
+     " these, and `station_config` a station with its reader, for those who want one name."),
     ("docs/ARCHITECTURE.md", "| 7 tests alone | `memory_outside` (logs, links and the outside that opens them, in memory);",
      "| 7 tests alone | `memory_outside` (logs, links and the outside that opens them, in memory); `feed_link`, `station_config` (hand on the items"
      " of the crates below);"),
@@ -105,7 +105,7 @@ def main():
             file.write(source)
         rows = [f"pub use Rattle.{low}.specs.{name}" for low in below for name in definitions(low)]
         with open(f"crates/{crate}/specs/Lib.antt", "w", encoding="utf-8") as file:
-            file.write("-- The definitions of the crates below, for who names this crate alone.\n" + "\n".join(rows) + "\n")
+            file.write("-- The definitions of the crates below, for those who name this crate alone.\n" + "\n".join(rows) + "\n")
         at = next(i for i, line in enumerate(lines) if line.startswith(after + ":"))
         lines.insert(at + 1, row)
     for user, low, thin in USERS:
