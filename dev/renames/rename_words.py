@@ -28,6 +28,9 @@ EMBEDDED = ("ANTT", "RT", "RATTLE")
 MARKED = re.compile(r"<!--(?:quote|clause|read|taken|beside) [^>]*-->")
 ALL_ROWS = []
 
+# Clauses of the standard library that have a word of the table.
+OF_STD = re.compile(r"split_at(?:_mut)?(?:-\d+)?\.ensures\.front")
+
 # Lines of pages that change by hand: the page, the old text, the new one.
 PAGE_EDITS = (
     ("docs/GLOSSARY.md", "| **lawful**, **spoilt** (in identifiers) | as the rules of its kind have it; of a made minute: made bad | valid; damaged |\n", ""),
@@ -73,7 +76,9 @@ class Rules:
         """Program text: dotted names, then each word."""
         for old, new in self.dotted:
             text = re.sub(r"(?<![A-Za-z0-9_'.])((?:Rattle\.)?)" + re.escape(old) + r"(?![A-Za-z0-9_'])", r"\g<1>" + new, text)
-        return WORD.sub(lambda m: self.word(m.group()), text)
+        pieces = re.split(f"({OF_STD.pattern})", text)
+        pieces[::2] = [WORD.sub(lambda m: self.word(m.group()), piece) for piece in pieces[::2]]
+        return "".join(pieces)
 
     def plain(self, text):
         """Prose: the rows for prose; of single words those that can only be names, and those between backticks."""
