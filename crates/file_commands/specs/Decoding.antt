@@ -1,4 +1,5 @@
--- What it is to decode a log: what is opened, the bytes read, why the reading ended, and what is written.
+-- The command `decode`: what it opens, which bytes of the log it reads, why the reading ends, and what it writes. All of it is this
+-- project's own.
 use Rattle.std.specs.Prelude.{◌≡◌, ℕ, ◌⊎◌, ◌≤◌, IsSome, Some, None, List, [], ◌++◌, ◌∷◌, length, map}
 use Rattle.feed_link.specs.Faults.{Rose}
 use Rattle.feed_link.specs.Told.{SourceState, SinkState}

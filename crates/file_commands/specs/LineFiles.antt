@@ -1,5 +1,5 @@
--- What it is to run through a file of lines against a station: what each line may say, what all of them give, and how it ends.
--- Also what is opened, the bytes read, why the reading ended, and what is written.
+-- The result of processing a file line by line, for a station: which files are opened, which bytes are read, what each line may
+-- say, which text the lines give, and the status. All of it is this project's own.
 use Rattle.std.specs.Prelude.{◌≡◌, ℕ, ◌⊎◌, ◌≤◌, false, IsSome, Option, Some, None, List, [], ◌∷◌, ◌++◌, length, map}
 use Rattle.clock_page.specs.Page.{PageFields}
 use Rattle.feed_link.specs.Faults.{Rose}

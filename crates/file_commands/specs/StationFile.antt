@@ -1,4 +1,5 @@
--- What it is to read a station file whole, and what may keep its station from being used.
+-- A station file that is read whole, and why its station can't be used: a fault of the file or of its text, or no memory. All of it
+-- is this project's own.
 use Rattle.std.specs.Prelude.{◌≡◌, ℕ, ◌⊎◌, ◌^◌, IsSome, Some, None, List, [], ◌∷◌, ◌++◌, codes, decimal}
 use Rattle.feed_link.specs.Told.{SourceState}
 use Rattle.feed_link.specs.Openings.{Wanted, MakesOpenings, log_visit}

@@ -1,4 +1,4 @@
--- What a poller's datagrams come to over the whole history of its exchanges (RFC 5905, section 8).
+-- The sample or the refusal that each answer to a poller gives, by the whole history of its exchanges (RFC 5905, section 8).
 use Rattle.std.specs.Prelude.{ℕ, Option, None, Some, unwrap_or, Result, Ok, Err, List, [], ◌∷◌, fold}
 use Rattle.tick_units.specs.declared.sample.Sample.{Sample}
 use Rattle.tick_units.specs.declared.stamp.Stamp.{Stamp}

@@ -1,4 +1,4 @@
--- What the program does: each command that arguments may ask for, what becomes of it, and when nothing has a fault.
+-- The one call of the program: which command its arguments ask for, the effect of that command, and when its status is 0.
 use Rattle.std.specs.Prelude.{◌≡◌, ℕ, ◌≤◌, ◌⊎◌, List}
 use Rattle.command_words.specs.Commands.{Asked, AskFor}
 use Rattle.command_words.specs.Commands.Asked.{decode, drill, migrate, replay, serve}

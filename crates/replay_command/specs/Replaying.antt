@@ -1,4 +1,4 @@
--- What it is to replay a script: a file of lines of scripts, which is played against a station.
+-- The command `replay`: it plays the lines of a script, one after another, on a station. All of it is this project's own.
 use Rattle.std.specs.Prelude.{ℕ, ◌^◌, Bool, true, false, List}
 use Rattle.feed_link.specs.Openings.{OutsideState}
 use Rattle.file_reader.specs.declared.reader.FileEnd.TheVariants.{Whole, Fault, TooLong}
