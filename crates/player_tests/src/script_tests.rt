@@ -6,6 +6,7 @@ ghost use Rattle.script_player.specs.KeptPlayer.{IsReady};
 use crate::shared::same;
 use clock_page::Page;
 use journal_entry::LINE_ROOM;
+use memory_outside::{NOON, REQUEST_DIGITS};
 use radio_receiver::{DcfReceiver, MsfReceiver, Receiver, WwvbReceiver};
 use receiver_rack::put_in_rack;
 use script_line::read_line;
@@ -284,15 +285,6 @@ fn a_full_journal_drops_what_is_due(rt: HostRuntime) {
     drops_what_is_due(&rt, alloc, 2, &both, false, 2_000_000);
 }
 
-// The places that are One in frames of DCF77, computed from the calendar by PTB's table: 1 January 2026, 13:00 to 13:04.
-const NOON: [&[usize]; 5] = [
-    &[18, 20, 29, 30, 33, 35, 36, 44, 45, 51, 52, 55],
-    &[18, 20, 21, 28, 29, 30, 33, 35, 36, 44, 45, 51, 52, 55],
-    &[18, 20, 22, 28, 29, 30, 33, 35, 36, 44, 45, 51, 52, 55],
-    &[18, 20, 21, 22, 29, 30, 33, 35, 36, 44, 45, 51, 52, 55],
-    &[18, 20, 23, 28, 29, 30, 33, 35, 36, 44, 45, 51, 52, 55],
-];
-
 // The pulses of a frame.
 fn frame(script: &mut String, ones: &[usize], start: u64) {
     for place in 0..59usize {
@@ -333,17 +325,14 @@ reply e40006ec0000000000100000494e4954000000000000000011223344556677880000012e00
 j2 5 0 0 302000000 verdict 3976257840 0\n\
 reply 240106ec000000000000f06744434600ed00e130000000001122334455667788ed00e13100000000ed00e1310020c49b\n";
 
-const REQUEST: &str =
-    "230006ec0000000000000000000000000000000000000000000000000000000000000000000000001122334455667788";
-
 // The pulses of five minutes. One request comes before the pulse that closes the fifth frame, and one after it.
 fn requests_at_noon(alloc: Global) -> String {
     let mut script = String::new(alloc);
     minutes(&mut script, &NOON);
     let _ = script.push_str("request 0 302000000 302000000 ");
-    let _ = script.push_str(REQUEST);
+    let _ = script.push_str(REQUEST_DIGITS);
     let _ = script.push_str("\npulse 0 302000000 100000\nrequest 0 303000000 303000500 ");
-    let _ = script.push_str(REQUEST);
+    let _ = script.push_str(REQUEST_DIGITS);
     let _ = script.push_str("\n");
     script
 }
@@ -367,13 +356,13 @@ reply 240106ec000000000000f06744434600ed00e130000000001122334455667788ed00e13100
 
 const SEALED_REQUESTS: [&str; 9] = [
     "request 0 303000000 303000500 ",
-    REQUEST,
+    REQUEST_DIGITS,
     "00000001b408cf70f4de3798e713f31a2a885f12\n",
     "request 0 303000000 303000500 ",
-    REQUEST,
+    REQUEST_DIGITS,
     "00000001b408cf70f4de3798e713f31a2a885fed\n",
     "request 0 303000000 303000500 ",
-    REQUEST,
+    REQUEST_DIGITS,
     "00000002b408cf70f4de3798e713f31a2a885f12\n",
 ];
 
