@@ -78,7 +78,7 @@ fn play_lines(
         match player.play(&line) {
             Ok(outcome) => write_line(&mut text, &outcome),
             Err(NotLawful) => {
-                let _ = write!(text, "{number} is not lawful\n");
+                let _ = write!(text, "{number} is not valid\n");
             }
         }
     }
@@ -166,7 +166,7 @@ fn a_swap_loses_what_was_heard_and_keeps_the_delay(rt: HostRuntime) {
 fn a_plan_has_four_receivers(rt: HostRuntime) {
     let station = [DCF, DCF, "[[radio]]\nplan = \"msf\"\nlog = \"log\"\n"];
     let script = "swap 0\nswap 1\nswap 0\nswap 2\nswap 2\nswap 2\nswap 2\nswap 1\n";
-    let want = "3 is not lawful\n7 is not lawful\n8 is not lawful\n";
+    let want = "3 is not valid\n7 is not valid\n8 is not valid\n";
     parts_give(&rt, rt.alloc(), &station, &[script], &[want]);
 }
 
@@ -174,7 +174,7 @@ fn a_plan_has_four_receivers(rt: HostRuntime) {
 fn pulses_of_a_feed_rise_over_swaps_too(rt: HostRuntime) {
     let script =
         "pulse 0 2000000 1\npulse 0 2000000 1\npulse 0 1999999 1\npulse 1 1000000 1\nswap 0\npulse 0 2000000 1\npulse 0 2000001 1\n";
-    let want = "2 is not lawful\n3 is not lawful\n6 is not lawful\n";
+    let want = "2 is not valid\n3 is not valid\n6 is not valid\n";
     parts_give(&rt, rt.alloc(), &[DCF, DCF], &[script], &[want]);
 }
 
@@ -208,9 +208,9 @@ const FALLING: [&str; 11] = [
 
 const OF_FALLING: [&str; 5] = [
     ASKED,
-    "2 is not lawful\n3 is not lawful\n",
+    "2 is not valid\n3 is not valid\n",
     SAMPLE,
-    "5 is not lawful\n6 is not lawful\nj2 2 0 0 1010000 declined 3\n",
+    "5 is not valid\n6 is not valid\nj2 2 0 0 1010000 declined 3\n",
     ASKED_AGAIN,
 ];
 
@@ -223,8 +223,8 @@ const OF_OTHER_FEEDS: &str =
     "pulse 1 1 1\npulse 2 1 1\nask 0 1\nask 2 1\nanswer 0 1 00\nanswer 2 1 00\nswap 1\nswap 2\npulse 4294967295 1 1\nask 4294967295 1\n";
 
 const NOT_LAWFUL: &str =
-    "1 is not lawful\n2 is not lawful\n3 is not lawful\n4 is not lawful\n5 is not lawful\n6 is not lawful\n7 is not lawful\n\
-8 is not lawful\n9 is not lawful\n10 is not lawful\n";
+    "1 is not valid\n2 is not valid\n3 is not valid\n4 is not valid\n5 is not valid\n6 is not valid\n7 is not valid\n\
+8 is not valid\n9 is not valid\n10 is not valid\n";
 
 // Feed 0 is a radio, feed 1 a server, and there is no other.
 #[test]
@@ -271,7 +271,7 @@ fn drops_what_is_due(
 
 const DECLINED: &str = "j2 2 0 0 2000000 declined 3\n";
 
-const FOURTH: &str = "4 is not lawful\n";
+const FOURTH: &str = "4 is not valid\n";
 
 // An entry that is dropped counts for its server all the same: the server's moment stays.
 #[test]
