@@ -102,7 +102,7 @@ pub record OpensAndRuns (file_of : StationFields → LineFile) (name file_name :
   pub opens : MakesOpenings (needed_by name file_name) effect.outside effect.outside_now (log_visit name opened back ∷ log_visit file_name file_opened file_back ∷ []) None
   pub runs : RunsThrough (file_of of) file_opened file_back effect.out effect.out_now effect.status
 
--- what becomes of a command that runs through a file against a station
+-- the effects that a command may have which processes a file for a station
 abbrev pub RunsAgainst : Subject → (StationFields → LineFile) → List ℕ → List ℕ → Effect → Type 0
 RunsAgainst what file_of name file_name effect =
     CannotOpen (needed_by name file_name) [] (LogOf name) Station effect

@@ -85,7 +85,7 @@ journal_of station = record {
   ending = λ end lines. migrate_ending end;
 }
 
--- what becomes of a command to convert a journal, and when all that it opens has no fault
+-- the effects that `migrate` may have, and when all that it opens has no fault
 abbrev pub RunsMigrate : List ℕ → List ℕ → Effect → Type 0
 RunsMigrate name journal_name = RunsAgainst Journal journal_of name journal_name
 

@@ -54,7 +54,7 @@ line_at (Ends ending) = status_line ending
 line_at (Faulty fault) = station_line fault
 
 -- what keeps the station of a file from being used whose bytes were read so far: a read that failed, bytes past the limit, or a
--- fault of the text. Or there was not enough memory, which is free once the file was read
+-- fault of the text. Or there was not enough memory, which may be answered whenever the file was read
 abbrev pub IsObstacle : FileEnd → List ℕ → Obstacle → Type 0
 IsObstacle file.Fault bytes obstacle = obstacle ≡ Ends (NotRead Station)
 IsObstacle file.TooLong bytes obstacle = obstacle ≡ Ends (Long Station)

@@ -55,7 +55,7 @@ pub record AreFour {B : Type 0} (stands : B → History → Type 0) (spares : Li
   pub blank : All (IsSpare stands) spares
   pub four : (plan : Plan) → left_of plan spares ≡ 4
 
--- this many receivers of a rack were looked at, and these kept; the others are still to come
+-- this many receivers of a rack were examined, and these kept; the others are still to be examined
 pub record HasSorted {B : Type 0} (stands : B → History → Type 0) (spares : List (Spare B)) (rest : List B) : Type 0 where
   pub histories : List History
   pub are : AreOf stands rest histories

@@ -36,7 +36,7 @@ script_of limit station = record {
   ending = λ end played. replay_ending end (is_full station limit (lines_of played)) limit;
 }
 
--- what becomes of a command to replay, and when all that it opens has no fault
+-- the effects that `replay` may have, and when all that it opens has no fault
 abbrev pub RunsReplay : List ℕ → List ℕ → ℕ → Effect → Type 0
 RunsReplay name script_name limit = RunsAgainst Script (script_of limit) name script_name
 
