@@ -29,6 +29,8 @@ ALL_ROWS = []
 
 # Lines of pages that change by hand: the page, the old text, the new one.
 PAGE_EDITS = (
+    ("docs/CLAIMS.md", "`LeapReader::take`: `taken`, `told`; `finish`: `finished`, `told`",
+     "`LeapReader::take`: `taken`, `supported`; `finish`: `finished`, `supported`"),
     ("docs/GLOSSARY.md", "| **lawful**, **spoilt** (in identifiers) | as the rules of its kind have it; of a made minute: made bad | valid; damaged |\n", ""),
     ("docs/GLOSSARY.md", "| **front** (in identifiers) | a prefix of a text or of a list, perhaps all of it | prefix |\n", ""),
     ("docs/GLOSSARY.md", "| **told**, **tells** (in identifiers) | what an object makes known of its contents | reports |\n", ""),
@@ -152,6 +154,8 @@ def renamed(rules, path, text):
         kinds = {".rt": renamed_rattle, ".antt": renamed_definitions, ".edit": renamed_edit}
         kind = kinds.get(os.path.splitext(path)[1])
         return kind(rules, text) if kind else text
+    if path == "docs/TOUR.md":
+        text = re.sub(r"(?ms)^```\n.*?^```$", lambda m: rules.code(m.group()), text)
     if path.endswith(".md"):
         return rules.plain(MARKED.sub(lambda m: rules.code(m.group()), linked(text)))
     if path.endswith(".rt.in"):
