@@ -29,8 +29,6 @@ ALL_ROWS = []
 
 # Lines of pages that change by hand: the page, the old text, the new one.
 PAGE_EDITS = (
-    ("docs/CLAIMS.md", "`LeapReader::take`: `taken`, `told`; `finish`: `finished`, `told`",
-     "`LeapReader::take`: `taken`, `supported`; `finish`: `finished`, `supported`"),
     ("docs/GLOSSARY.md", "| **lawful**, **spoilt** (in identifiers) | as the rules of its kind have it; of a made minute: made bad | valid; damaged |\n", ""),
     ("docs/GLOSSARY.md", "| **front** (in identifiers) | a prefix of a text or of a list, perhaps all of it | prefix |\n", ""),
     ("docs/GLOSSARY.md", "| **told**, **tells** (in identifiers) | what an object makes known of its contents | reports |\n", ""),
