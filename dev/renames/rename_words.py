@@ -1,7 +1,8 @@
 """Renames whole words (identifiers) over crates, attacks and pages, by the table beside this file.
 
     python3 dev/renames/rename_words.py          # from the top; changes files in place
-    python3 dev/renames/rename_words.py --check  # prints clashes and words left, changes nothing
+    python3 dev/renames/rename_words.py --check  # prints clashes, changes nothing
+    python3 dev/renames/rename_words.py --left   # prints identifiers that have a part which the table renames elsewhere
 
 A row of rename_words.tsv is SCOPE, OLD, NEW, with tabs between. SCOPE is `*` (everywhere), a crate's name, or the beginning of a
 path below crates/ (`pulse_log/proofs/FrontLaws`). The longest scope that fits a file wins. OLD is one whole word of a
@@ -198,10 +199,36 @@ def clashes(all_rows, paths):
                 print(f"{path}: differ in case: {', '.join(sorted(names))}")
 
 
+# Parts of identifiers that are to go, and the identifiers that keep one since the specification, the language or English has it.
+PARTS = {"lawful", "unlawful", "told", "untold", "tells", "front", "fronts", "behind", "hears", "spoilt"}
+STAY = {"tells_all_ascii_digits", "tells_digits", "in_front", "put_in_front", "an_end_left_behind"}
+
+
+def left(all_rows, paths):
+    """Prints each identifier of a file that has one of PARTS and no row."""
+    found = {}
+    for path in paths:
+        if path.startswith(ROOTS) and path.endswith(CODE):
+            rules = Rules(all_rows, path)
+            with open(path, encoding="utf-8") as file:
+                text = file.read()
+            mark = "--" if path.endswith(".antt") else "//"
+            for line in text.split("\n"):
+                for word in WORD.findall(line.split(mark)[0]):
+                    parts = {part.lower() for part in re.findall(r"[A-Z]?[a-z0-9]+|[A-Z]+", word)}
+                    if parts & PARTS and word not in STAY and word not in rules.words:
+                        found.setdefault(word, path)
+    for word, path in sorted(found.items()):
+        print(f"{word}: {path}")
+
+
 def main():
     all_rows = list(rows())
     ALL_ROWS.extend(all_rows)
     paths = tracked()
+    if "--left" in sys.argv:
+        left(all_rows, paths)
+        return
     if "--check" in sys.argv:
         clashes(all_rows, paths)
         return
