@@ -14,7 +14,7 @@ returns-then-is_some c =
     let i = c.loop-place.place in
     let item = c.index-items-place.result in
     let here = bad_in_keys (ids_in (items_view (take i xs))) (table_at i (view item)) in
-    let found = c.first_in_item-spot.ensures ∙ ap (λ vs. slice_get (bad_in_keys (ids_in (items_view vs)) (table_at i (view item))) 0) c.split_at.ensures.prefix in
+    let found = c.first_in_item-spot.ensures ∙ ap (λ vs. slice_get (bad_in_keys (ids_in (items_view vs)) (table_at i (view item))) 0) c.split_at.ensures.front in
     first_or path_text c.first_in_item-spot.result here (left xs (i + 1)) found (sym c.is_some.ensures ∙ c.if-is_some.true)
     ∙ ap (λ t. slice_get t 0) (sym (left-step xs i item c.loop-place-test.true c.index-items-place.is) ∙ c.loop-place.invariant)
 
@@ -24,7 +24,7 @@ loop-place-preserved c =
     let i = c.loop-place.place in
     let item = c.index-items-place.result in
     let here = bad_in_keys (ids_in (items_view (take i xs))) (table_at i (view item)) in
-    let found = c.first_in_item-spot.ensures ∙ ap (λ vs. slice_get (bad_in_keys (ids_in (items_view vs)) (table_at i (view item))) 0) c.split_at.ensures.prefix in
+    let found = c.first_in_item-spot.ensures ∙ ap (λ vs. slice_get (bad_in_keys (ids_in (items_view vs)) (table_at i (view item))) 0) c.split_at.ensures.front in
     let past = first_past path_text c.first_in_item-spot.result here (left xs (i + 1)) found (sym c.is_some.ensures ∙ c.if-is_some.false) in
     sym past ∙ sym (left-step xs i item c.loop-place-test.true c.index-items-place.is) ∙ c.loop-place.invariant
 
