@@ -1,4 +1,4 @@
--- The definitions of the crates below, for who names this crate alone.
+-- The definitions of the crates below, for those who name this crate alone.
 pub use Rattle.station_values.specs.KeptStation
 pub use Rattle.station_values.specs.Station
 pub use Rattle.station_reader.specs.Faults
