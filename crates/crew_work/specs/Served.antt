@@ -4,7 +4,7 @@ use Rattle.std.specs.List.{flat_map, sum_by}
 use Rattle.outside_traits.specs.States.{SourceState, LinkState, NetEvent, Adds}
 use Rattle.feed_workers.specs.Leaps.{EndsLeap, due_leap, most_of_a_list}
 use Rattle.feed_workers.specs.Logs.{EndsLog}
-use Rattle.log_decoder.specs.Decoding.{most_of_a_log}
+use Rattle.radio_receiver.specs.Decoding.{most_of_a_log}
 use Rattle.feed_workers.specs.Polling.{EndsPolls}
 use Rattle.feed_workers.specs.Polls.{due_link}
 use Rattle.feed_workers.specs.declared.work.LogWork.{LogWork}
@@ -12,7 +12,7 @@ use Rattle.feed_workers.specs.declared.work.PollWork.{PollWork}
 use Rattle.kiss_gate.specs.Gates.{Gate}
 use Rattle.packet_auth.specs.Keys.{KeyFields}
 use Rattle.journal_entry.specs.declared.entry.Entry.{Entry}
-use Rattle.log_decoder.specs.Due.{due_log}
+use Rattle.radio_receiver.specs.Due.{due_log}
 use Rattle.radio_receiver.specs.Histories.{History}
 use Rattle.responder.specs.Serving.{EndsBy}
 use Rattle.responder.specs.Turns.{Turn, Reading, events_of, readings_of, AreTurns, answered_of, dropped_of, torn_of, kissed_of, unkept_of, Rises}

@@ -1,14 +1,13 @@
 //! Logs of DCF77 in which every expected value is from outside. The frames are by PTB's table, of 1 January 2026, 13:00 and
 //! 13:01. Their seconds since 1900 are 3976257600 and 3976257660.
 ghost use Rattle.std.specs.Prelude.{◌≡◌, ◌≤◌};
-ghost use Rattle.log_decoder.specs.Decoding.{IsReady};
+ghost use Rattle.radio_receiver.specs.Decoding.{IsReady};
 
 use crate::shared::same;
 use journal_entry::{ENTRY_ROOM, Entry, write_entry};
-use log_decoder::{LOG_LIMIT, LogDecoder};
+use radio_receiver::{BoxedReceiver, DcfReceiver, LOG_LIMIT, LogDecoder, Receiver};
 use memory_outside::{NOON_0, NOON_1};
 use pulse_log::{BadLine, Taken};
-use radio_receiver::{BoxedReceiver, DcfReceiver, Receiver};
 use std::alloc::Global;
 use std::process::Abort;
 use std::test::Fail;

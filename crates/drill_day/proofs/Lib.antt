@@ -3,3 +3,5 @@ pub mod MarkLaws
 pub mod CutLaws
 pub mod MinuteLaws
 pub mod DayLaws
+pub mod OrderLaws
+pub mod NeededLaws

@@ -5,10 +5,10 @@ use Rattle.std.proofs.lemmas.List.Concat.{flat_map-append}
 use Rattle.outside_traits.specs.States.{SourceState, SinkState}
 use Rattle.file_reader.specs.Ends.{HasReadPrefix}
 use Rattle.journal_entry.specs.declared.entry.Entry.{Entry}
-use Rattle.log_decoder.specs.Decoding.{HasDecoded, DecodesPrefix, most_of_a_log, radio_log}
-use Rattle.log_decoder.specs.Due.{due_log, entry_line, entry_of, lines_of_entries}
-use Rattle.log_decoder.specs.declared.decoder.LogDecoder.{LogDecoder}
-use Rattle.log_decoder.proofs.DueLaws.{due_none, lines_grow}
+use Rattle.radio_receiver.specs.Decoding.{HasDecoded, DecodesPrefix, most_of_a_log, radio_log}
+use Rattle.radio_receiver.specs.Due.{due_log, entry_line, entry_of, lines_of_entries}
+use Rattle.radio_receiver.specs.declared.decoder.LogDecoder.{LogDecoder}
+use Rattle.radio_receiver.proofs.DueLaws.{due_none, lines_grow}
 use Rattle.pulse_log.proofs.LogLaws.{bad_stays}
 use Rattle.pulse_log.specs.declared.reader.BadLine.{BadLine}
 use Rattle.radio_receiver.specs.Histories.{History, answers_of}
@@ -21,13 +21,13 @@ use Rattle.file_commands.specs.LogTaking.{IsDecodedBy, IsFound, log_says}
 use Rattle.file_commands.specs.Reading.{ReadsLines, bad_in_the_end}
 use Rattle.file_commands.specs.Taking.{Gives, given, bad_of, flow_of, EndsItself, EndsStopped}
 use Rattle.file_commands.specs.Text.{log_text}
-use Rattle.sink_text.specs.Writing.{WritesAll}
+use Rattle.outside_traits.specs.Writing.{WritesAll}
 use Rattle.file_commands.specs.Writing.{Answers}
 use Rattle.file_commands.specs.declared.ending.status.Status.{Status}
 use Rattle.file_commands.specs.declared.ending.status.Status.TheVariants.{WriteFault}
 use Rattle.file_commands.specs.declared.ending.subject.Subject.TheVariants.{Feed}
 use Rattle.file_reader.specs.declared.log_end.LogEnd.{LogEnd}
-use Rattle.sink_text.proofs.WritingLaws.{prefix_of_more}
+use Rattle.outside_traits.proofs.WritingLaws.{prefix_of_more}
 
 text_none : (plan : Plan) → ◌≡◌ {A = List ℕ} [] (log_text plan [])
 text_none plan = ap lines_of_entries (sym (due_none 0 plan 0))

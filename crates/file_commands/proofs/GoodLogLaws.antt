@@ -9,7 +9,7 @@ use Rattle.pulse_log.proofs.LogLaws.{bad_stays}
 use Rattle.tick_units.specs.Log.{bad_line, bad_at_end, or_unfinished, lines_of}
 use Rattle.tick_units.specs.declared.marks.Plan.{Plan}
 use Rattle.file_commands.specs.Decoding.{Decodes, IsGoodLog, HasGoodLog, RunsDecode}
-use Rattle.log_decoder.specs.Decoding.{most_of_a_log}
+use Rattle.radio_receiver.specs.Decoding.{most_of_a_log}
 use Rattle.file_commands.specs.Effects.{Effect}
 use Rattle.file_commands.specs.Endings.{status_of, ending_at}
 use Rattle.file_reader.specs.Ends.{HasReadPrefix, EndsReading}

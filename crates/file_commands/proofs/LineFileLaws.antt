@@ -33,7 +33,7 @@ use Rattle.file_commands.specs.Reading.{ReadsLines}
 use Rattle.file_commands.specs.StationFile.{HasStation, IsObstacle, IsStation, status_at, line_at}
 use Rattle.file_commands.specs.Taking.{EndsItself, EndsStopped, flow_of}
 use Rattle.file_commands.specs.Text.{page_text}
-use Rattle.sink_text.specs.Writing.{WritesAll}
+use Rattle.outside_traits.specs.Writing.{WritesAll}
 use Rattle.file_commands.specs.Writing.{Answers}
 use Rattle.file_commands.proofs.GoodLogLaws.{prefix_of, none_left, whole_text, rose_by_one}
 use Rattle.file_commands.proofs.OpeningLaws.{two_failed_first, two_only_first, two_failed_next, two_opened}

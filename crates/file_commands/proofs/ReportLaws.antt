@@ -8,8 +8,8 @@ use Rattle.file_commands.specs.Taking.{EndsItself, EndsStopped, Holds, Says, flo
 use Rattle.file_commands.specs.declared.report.Report.{Report}
 use Rattle.file_commands.specs.declared.report.Report.TheVariants.{Ended, Refused, Unwritten}
 use Rattle.file_reader.specs.declared.log_end.LogEnd.{LogEnd}
-use Rattle.sink_text.specs.Writing.{WritesAll, WritesPrefix}
-use Rattle.sink_text.proofs.WritingLaws.{writes_prefix, writes_more}
+use Rattle.outside_traits.specs.Writing.{WritesAll, WritesPrefix}
+use Rattle.outside_traits.proofs.WritingLaws.{writes_prefix, writes_more}
 
 -- a line alone
 pub line_alone : (line : List ℕ) (a b : SinkState) → WritesAll a b line → EndsInLine line a b

@@ -7,8 +7,8 @@ use Rattle.outside_traits.specs.States.{SinkState}
 use Rattle.file_commands.specs.declared.reading.Stop.{Stop}
 use Rattle.file_commands.specs.declared.reading.Stop.TheVariants.{BadLine, WriteFault}
 use Rattle.file_commands.specs.Taking.{Holds, Says, TakesAll, MeetsBad, Stops, StopsTaking, Gives, IsGiven, given as text_of, bad_of}
-use Rattle.sink_text.specs.Writing.{WritesAll, WritesPrefix}
-use Rattle.sink_text.proofs.WritingLaws.{writes_more}
+use Rattle.outside_traits.specs.Writing.{WritesAll, WritesPrefix}
+use Rattle.outside_traits.proofs.WritingLaws.{writes_more}
 
 -- of all these bytes this rest is still to be taken; the text of those before it is written
 pub record IsTakenSoFar (holds : Holds) (start out : SinkState) (all rest : List ℕ) : Type 0 where

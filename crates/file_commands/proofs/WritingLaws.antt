@@ -4,8 +4,8 @@ use Rattle.outside_traits.specs.States.{SinkState}
 use Rattle.file_commands.specs.Writing.{Answers}
 use Rattle.file_commands.specs.declared.ending.status.Status.{Status}
 use Rattle.file_commands.specs.declared.ending.status.Status.TheVariants.{WriteFault}
-use Rattle.sink_text.specs.Writing.{WritesAll, WritesPrefix}
-use Rattle.sink_text.proofs.WritingLaws.{prefix_of_both, writes_prefix, writes_more}
+use Rattle.outside_traits.specs.Writing.{WritesAll, WritesPrefix}
+use Rattle.outside_traits.proofs.WritingLaws.{prefix_of_both, writes_prefix, writes_more}
 
 -- a text, and then the status line
 pub answers_more : (status result : Status) (a b c : SinkState) (x y : List ℕ) → WritesAll a b x → Answers status result b c y → Answers status result a c (x ++ y)

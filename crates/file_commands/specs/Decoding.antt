@@ -13,13 +13,13 @@ use Rattle.file_commands.specs.Endings.{status_of, status_line, ending_at}
 use Rattle.file_commands.specs.Opening.{CannotOpen}
 use Rattle.file_commands.specs.Reading.{ReadsLines}
 use Rattle.file_commands.specs.Text.{log_text}
-use Rattle.sink_text.specs.Writing.{WritesAll, WritesPrefix}
+use Rattle.outside_traits.specs.Writing.{WritesAll, WritesPrefix}
 use Rattle.file_commands.specs.Writing.{Answers}
 use Rattle.file_commands.specs.declared.ending.status.Status.{Status}
 use Rattle.file_commands.specs.declared.ending.status.Status.TheVariants.{WriteFault}
 use Rattle.file_commands.specs.declared.ending.subject.Subject.TheVariants.{Feed}
 use Rattle.file_reader.specs.declared.log_end.LogEnd.{LogEnd}
-use Rattle.log_decoder.specs.Decoding.{most_of_a_log}
+use Rattle.radio_receiver.specs.Decoding.{most_of_a_log}
 
 -- the reading ended by itself: the lines of the answers are written, and then the status line; a write of it may fail
 pub record EndsByCause (plan : Plan) (file file_now : SourceState) (out out_now : SinkState) (result : Status) : Type 0 where

@@ -16,7 +16,7 @@ use Rattle.file_commands.specs.Opening.{CannotOpen}
 use Rattle.file_commands.specs.Reading.{ReadsLines}
 use Rattle.file_commands.specs.StationFile.{IsStation, HasStation, EndsAtStation}
 use Rattle.file_commands.specs.Text.{page_text}
-use Rattle.sink_text.specs.Writing.{WritesAll, WritesPrefix}
+use Rattle.outside_traits.specs.Writing.{WritesAll, WritesPrefix}
 use Rattle.file_commands.specs.Writing.{Answers}
 use Rattle.file_commands.specs.declared.ending.Ending.{Ending}
 use Rattle.file_commands.specs.declared.ending.Ending.TheVariants as ending

@@ -3,9 +3,9 @@ use Rattle.std.specs.Prelude.{◌≡◌, ℕ, Option, None, Some, Result, Ok, Er
 use Rattle.tick_units.specs.Log.{bad_line}
 use Rattle.tick_units.specs.declared.marks.Plan.{Plan}
 use Rattle.journal_entry.specs.declared.entry.Entry.{Entry}
-use Rattle.log_decoder.specs.Decoding.{HasDecoded}
-use Rattle.log_decoder.specs.Due.{entry_line}
-use Rattle.log_decoder.specs.declared.decoder.LogDecoder.{LogDecoder}
+use Rattle.radio_receiver.specs.Decoding.{HasDecoded}
+use Rattle.radio_receiver.specs.Due.{entry_line}
+use Rattle.radio_receiver.specs.declared.decoder.LogDecoder.{LogDecoder}
 use Rattle.pulse_log.specs.declared.reader.BadLine.{BadLine}
 use Rattle.radio_receiver.specs.Histories.{History}
 use Rattle.file_commands.specs.Text.{log_text}

@@ -6,7 +6,7 @@ use Rattle.file_reader.specs.Ends.{HasReadPrefix}
 use Rattle.journal_entry.specs.declared.writer.TheConstants.{LINE_ROOM}
 use Rattle.pulse_log.specs.declared.reader.BadLine as log
 use Rattle.file_commands.specs.Reading.{ReadsLines}
-use Rattle.sink_text.specs.Writing.{WritesAll, WritesPrefix}
+use Rattle.outside_traits.specs.Writing.{WritesAll, WritesPrefix}
 use Rattle.file_reader.specs.declared.log_end.LogEnd.{LogEnd}
 use Rattle.file_commands.specs.declared.reading.Stop.{Stop}
 use Rattle.file_commands.specs.declared.reading.Stop.TheVariants.{BadLine, WriteFault}

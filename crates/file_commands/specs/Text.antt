@@ -1,7 +1,7 @@
 -- The lines that a command writes: a line for each entry, and a page. The forms are this project's own.
 use Rattle.std.specs.Prelude.{ℕ, List, ◌++◌, codes}
 use Rattle.clock_page.specs.Page.{PageFields}
-use Rattle.log_decoder.specs.Due.{due_log, lines_of_entries}
+use Rattle.radio_receiver.specs.Due.{due_log, lines_of_entries}
 use Rattle.system_fold.specs.PageText.{page_line}
 use Rattle.tick_units.specs.declared.marks.Plan.{Plan}
 

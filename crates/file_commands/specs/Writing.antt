@@ -3,7 +3,7 @@ use Rattle.std.specs.Prelude.{◌≡◌, ℕ, ◌⊎◌, List}
 use Rattle.outside_traits.specs.States.{SinkState}
 use Rattle.file_commands.specs.declared.ending.status.Status.{Status}
 use Rattle.file_commands.specs.declared.ending.status.Status.TheVariants.{WriteFault}
-use Rattle.sink_text.specs.Writing.{WritesAll, WritesPrefix}
+use Rattle.outside_traits.specs.Writing.{WritesAll, WritesPrefix}
 
 -- the text was written whole, and the answer is this status; or a write failed, and that is the answer
 abbrev pub Answers : Status → Status → SinkState → SinkState → List ℕ → Type 0

@@ -17,10 +17,9 @@ use crate::reading::{Gives, Line, Taker, ending_at, read_lines};
 use crate::report::Report;
 use file_reader::LogEnd;
 use journal_entry::Entry;
-use log_decoder::{LOG_LIMIT, LogDecoder};
+use radio_receiver::{DcfReceiver, LOG_LIMIT, LogDecoder, MsfReceiver, Receiver, WwvbReceiver};
 use outside_traits::{Failed, Outside, Sink, Source};
 use pulse_log::{BadLine, Taken};
-use radio_receiver::{DcfReceiver, MsfReceiver, Receiver, WwvbReceiver};
 use tick_units::Plan;
 
 // What a decoder found: the length of an entry's line, which is then the beginning of `line`, nothing, or a bad line.
@@ -37,7 +36,7 @@ fn give_found(found: Result<Option<Entry>, BadLine>, line: &mut Line) -> Gives
 
 impl<R: Receiver> Taker for LogDecoder<R> {
     ghost use Rattle.std.specs.Prelude.{◌^◌};
-    ghost use Rattle.log_decoder.specs.Decoding.{IsReady};
+    ghost use Rattle.radio_receiver.specs.Decoding.{IsReady};
     ghost use Rattle.file_commands.specs.LogTaking.{IsDecodedBy, log_says};
     ghost use Rattle.tick_units.specs.declared.marks.Plan.{Plan};
 

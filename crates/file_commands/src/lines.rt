@@ -2,7 +2,7 @@
 ghost use Rattle.std.specs.Prelude.{◌≡◌, ◌≤◌, ◌++◌, codes, take};
 ghost use Rattle.journal_entry.specs.Numbers.{numbered_text};
 ghost use Rattle.journal_entry.specs.declared.writer.TheConstants.{LINE_ROOM};
-ghost use Rattle.log_decoder.specs.Due.{entry_line};
+ghost use Rattle.radio_receiver.specs.Due.{entry_line};
 
 use crate::reading::Line;
 use journal_entry::{Entry, Numbered, write_numbered, write_unnumbered};

@@ -9,9 +9,8 @@ use crate::ending::Ending;
 use crate::ending::subject::Subject;
 use file_reader::LogEnd;
 use journal_entry::LINE_ROOM;
-use outside_traits::{Failed, Sink};
+use outside_traits::{Failed, Sink, write_all};
 use pulse_log::BadLine;
-use sink_text::write_all;
 pub use taking::{Taker, read_lines};
 
 /// A line that is written, in its room.

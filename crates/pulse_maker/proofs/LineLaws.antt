@@ -8,9 +8,9 @@ use Rattle.tick_units.specs.declared.marks.Symbol.{Symbol}
 use Rattle.tick_units.specs.declared.marks.Symbol.TheVariants.{Zero, One, OnlyB, Both, Long, Odd}
 use Rattle.pulse_log.specs.Writing.{line_of}
 use Rattle.pulse_maker.specs.Made.{width_of, parts_of, text_of}
-use Rattle.sink_text.specs.Writing.{WritesAll, WritesPrefix}
+use Rattle.outside_traits.specs.Writing.{WritesAll, WritesPrefix}
 use Rattle.pulse_maker.proofs.ProgressLaws.{text_append}
-use Rattle.sink_text.proofs.WritingLaws.{writes_prefix, prefix_of_both}
+use Rattle.outside_traits.proofs.WritingLaws.{writes_prefix, prefix_of_both}
 
 -- what stands at the beginning of a piece in which a line was written
 pub prefix_is_line : (r : Reduction) (count : ℕ) (piece rest : List ℕ) → piece ≡ line_of r ++ 10 ∷ [] ++ rest → count ≡ length (line_of r) + 1 → take count piece ≡ text_of (r ∷ [])

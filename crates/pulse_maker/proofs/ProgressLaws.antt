@@ -8,10 +8,10 @@ use Rattle.tick_units.specs.declared.marks.Plan.{Plan}
 use Rattle.tick_units.specs.declared.marks.Reduction.{Reduction}
 use Rattle.pulse_maker.specs.Made.{number_after, number_from, start_of, parts_of, reductions_from, reductions_of, text_of}
 use Rattle.pulse_maker.specs.Progress.{text_from, HasWritten, HasStopped}
-use Rattle.sink_text.specs.Writing.{WritesAll, WritesPrefix}
+use Rattle.outside_traits.specs.Writing.{WritesAll, WritesPrefix}
 use Rattle.pulse_maker.specs.declared.seconds.Second.{Second}
 use Rattle.pulse_maker.specs.declared.writer.LogWriter.{LogWriter}
-use Rattle.sink_text.proofs.WritingLaws.{writes_more, writes_prefix, prefix_of_both}
+use Rattle.outside_traits.proofs.WritingLaws.{writes_more, writes_prefix, prefix_of_both}
 
 -- the reductions of some seconds and of those after them
 pub reductions_append : (plan : Plan) (start j n : ℕ) (xs ys : List Second) → n ≡ j + length xs

@@ -3,7 +3,7 @@ use Rattle.std.specs.Prelude.{◌≡◌, ℕ, List, length}
 use Rattle.outside_traits.specs.States.{SinkState}
 use Rattle.tick_units.specs.declared.marks.Plan.{Plan}
 use Rattle.pulse_maker.specs.Made.{number_from, reductions_of, text_of}
-use Rattle.sink_text.specs.Writing.{WritesAll, WritesPrefix}
+use Rattle.outside_traits.specs.Writing.{WritesAll, WritesPrefix}
 use Rattle.pulse_maker.specs.declared.seconds.Second.{Second}
 use Rattle.pulse_maker.specs.declared.writer.LogWriter.{LogWriter}
 

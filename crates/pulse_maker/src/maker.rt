@@ -2,7 +2,7 @@
 ghost use Rattle.std.specs.Prelude.{◌≡◌, ◌%◌, ◌≤◌, length, IfOk, OnOk, OnErr};
 ghost use Rattle.pulse_maker.specs.Made.{made, text_of, IsReadAs};
 ghost use Rattle.pulse_maker.specs.Minutes.{index_of};
-ghost use Rattle.sink_text.specs.Writing.{WritesAll, WritesPrefix};
+ghost use Rattle.outside_traits.specs.Writing.{WritesAll, WritesPrefix};
 
 use crate::minutes::{FRAME_ROOM, closing_symbols, opening_index, opening_symbols, write_symbols};
 use crate::writer::LogWriter;

@@ -5,14 +5,13 @@ ghost use Rattle.pulse_log.specs.Writing.{line_of};
 ghost use Rattle.tick_units.specs.declared.marks.Plan.{Plan};
 ghost use Rattle.pulse_maker.specs.Made.{seeded, width_of, parts_of, text_of};
 ghost use Rattle.pulse_maker.specs.Minutes.{seconds_from};
-ghost use Rattle.sink_text.specs.Writing.{WritesAll, WritesPrefix};
+ghost use Rattle.outside_traits.specs.Writing.{WritesAll, WritesPrefix};
 ghost use Rattle.pulse_maker.specs.declared.seconds.Second.{Second};
 
 use crate::jitter::{number_after, seeded};
 use crate::seconds::{Second, reduction_at, start_of, width_of};
-use outside_traits::{Failed, Sink};
+use outside_traits::{Failed, Sink, write_all};
 use pulse_log::write_line;
-use sink_text::write_all;
 use tick_units::{Plan, Reduction, Symbol};
 
 // How long after the first part of an MSF second its second part starts, in microseconds.

@@ -4,7 +4,7 @@ ghost use Rattle.std.specs.Prelude.{◌<◌};
 use kiss_gate::ClientGate;
 use packet_auth::KeyRing;
 use page_cell::ReadPass;
-use sealed_reply::Reply;
+use reply_core::Reply;
 
 /// Serves the clients of a link from the shared page.
 #[derive(Drop)]

@@ -13,8 +13,8 @@ use Rattle.feed_workers.specs.Keeping.{Keeps, Share, share_of}
 use Rattle.feed_workers.specs.Leaps.{due_leap}
 use Rattle.feed_workers.specs.Polls.{due_link}
 use Rattle.journal_entry.specs.declared.entry.Entry.{Entry}
-use Rattle.log_decoder.specs.Decoding.{HasDecoded}
-use Rattle.log_decoder.specs.Due.{due_log}
+use Rattle.radio_receiver.specs.Decoding.{HasDecoded}
+use Rattle.radio_receiver.specs.Due.{due_log}
 use Rattle.page_cell.proofs.Places.{of_same}
 use Rattle.page_cell.specs.Claims.{IsTrueOf, of_feed}
 use Rattle.page_cell.specs.Passes.{Known, claim_of}

@@ -15,9 +15,9 @@ use Rattle.outside_traits.specs.States.{LinkState, SinkState, SourceState}
 use Rattle.memory_links.specs.declared.sure_source.SureSource.{SureSource}
 use Rattle.file_reader.specs.declared.log_end.LogEnd.TheVariants as log
 use Rattle.journal_entry.specs.declared.entry.Entry.{Entry}
-use Rattle.journal_orders.specs.Orders.{KeepsFeeds, NamesNoLeap, leap_named}
-use Rattle.journal_orders.proofs.OrderLaws.{page-kept}
-use Rattle.log_decoder.specs.Due.{entry_of}
+use Rattle.drill_day.specs.Orders.{KeepsFeeds, NamesNoLeap, leap_named}
+use Rattle.drill_day.proofs.OrderLaws.{page-kept}
+use Rattle.radio_receiver.specs.Due.{entry_of}
 use Rattle.page_cell.specs.Claims.{of_feed}
 use Rattle.drill_day.specs.Day.{day_due, day_log, day_logs, source_of}
 use Rattle.station_values.specs.Station.{RadioFields, one_of_each, settings_of}
@@ -108,7 +108,7 @@ dues_with : (feed : ℕ) (radios : List RadioFields) (texts : List (List ℕ)) (
 dues_with feed [] texts runs n = refl
 dues_with feed (radio ∷ radios) [] runs n = refl
 dues_with feed (radio ∷ radios) (text ∷ texts) [] n = absurd (omega (arith, n))
-dues_with feed (radio ∷ radios) (text ∷ texts) (run ∷ runs) n = ap (λ l. Rattle.log_decoder.specs.Due.due_log feed radio.plan radio.delay text ∷ l) (dues_with (suc feed) radios texts runs (omega (arith, n)))
+dues_with feed (radio ∷ radios) (text ∷ texts) (run ∷ runs) n = ap (λ l. Rattle.radio_receiver.specs.Due.due_log feed radio.plan radio.delay text ∷ l) (dues_with (suc feed) radios texts runs (omega (arith, n)))
 
 opened_states : (texts : List (List ℕ)) (logs : List SureSource) → map sure_state logs ≡ map source_of texts → log_states sure_state logs ≡ map (λ text. OfLog (source_of text)) texts
 opened_states [] [] e = refl

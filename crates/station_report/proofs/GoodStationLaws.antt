@@ -13,7 +13,7 @@ use Rattle.outside_traits.specs.Openings.Wanted.{LogOf}
 use Rattle.outside_traits.specs.States.{LinkState, NetEvent, SinkState, SourceState, Adds}
 use Rattle.feed_workers.specs.Leaps.{EndsLeap, due_leap, most_of_a_list}
 use Rattle.feed_workers.specs.Logs.{EndsLog}
-use Rattle.log_decoder.specs.Decoding.{most_of_a_log}
+use Rattle.radio_receiver.specs.Decoding.{most_of_a_log}
 use Rattle.leap_file.specs.Rows.{bad_line}
 use Rattle.leap_file.proofs.GrowthLaws.{bad_whole_is, stays_bad}
 use Rattle.feed_workers.specs.Polling.{EndsPolls}
@@ -170,7 +170,7 @@ good_logs feed radios (r ∷ runs) (g ∷ goods) reads good same too =
   where
     more : (of : List RadioFields) → r.bytes ≡ g.bytes → ((others : List RadioFields) → radio_dues (suc feed) others runs ≡ radio_dues (suc feed) others goods) → radio_dues feed of (r ∷ runs) ≡ radio_dues feed of (g ∷ goods)
     more [] bytes rest = refl
-    more (radio ∷ others) bytes rest = ap (λ b. Rattle.log_decoder.specs.Due.due_log feed radio.plan radio.delay b ∷ radio_dues (suc feed) others runs) bytes ∙ ap (λ l. Rattle.log_decoder.specs.Due.due_log feed radio.plan radio.delay g.bytes ∷ l) (rest others)
+    more (radio ∷ others) bytes rest = ap (λ b. Rattle.radio_receiver.specs.Due.due_log feed radio.plan radio.delay b ∷ radio_dues (suc feed) others runs) bytes ∙ ap (λ l. Rattle.radio_receiver.specs.Due.due_log feed radio.plan radio.delay g.bytes ∷ l) (rest others)
 
 -- so is a leap second file
 good_file : (opened back : SourceState) (good : IsGoodList opened back) (bytes : List ℕ) (whole : Bool) (end : LogEnd) → EndsLeap most_of_a_list opened back bytes whole end →

@@ -20,7 +20,7 @@ use mathlib.Core.List.{IsPrefix}
 use Rattle.outside_traits.specs.States.{SourceState, SinkState, LinkState, NetEvent, Adds}
 use Rattle.feed_workers.specs.Leaps.{EndsLeap, due_leap, most_of_a_list}
 use Rattle.feed_workers.specs.Logs.{EndsLog}
-use Rattle.log_decoder.specs.Decoding.{most_of_a_log}
+use Rattle.radio_receiver.specs.Decoding.{most_of_a_log}
 use Rattle.feed_workers.specs.Polling.{EndsPolls}
 use Rattle.feed_workers.specs.Polls.{due_link}
 use Rattle.file_reader.specs.declared.log_end.LogEnd.{LogEnd}
@@ -30,7 +30,7 @@ use Rattle.feed_workers.specs.declared.work.PollEnd.TheVariants as poll
 use Rattle.journal_entry.specs.Texts.{spaced}
 use Rattle.journal_entry.specs.declared.entry.Entry.{Entry}
 use Rattle.kiss_gate.specs.Gates.{Gate}
-use Rattle.log_decoder.specs.Due.{due_log}
+use Rattle.radio_receiver.specs.Due.{due_log}
 use Rattle.page_cell.specs.Claims.{of_feed}
 use Rattle.responder.specs.Serving.{EndsBy}
 use Rattle.responder.specs.Turns.{Turn, events_of, readings_of, AreTurns, GoesOn, answered_of, dropped_of, torn_of, kissed_of, unkept_of, Rises}

@@ -5,14 +5,13 @@ ghost use Rattle.page_cell.specs.Claims.{of_feed};
 ghost use Rattle.station_report.specs.Crewing.{HasEach};
 ghost use Rattle.station_report.specs.DrillScaffold.{Counted, CountsFound, CountsOne, CountsUpTo, FinishesDrill, answer_found, answer_in, feed_lines, line_of_feed};
 ghost use Rattle.file_commands.specs.Reports.{Reports, status_in};
-ghost use Rattle.sink_text.specs.Writing.{WritesAll, WritesPrefix};
+ghost use Rattle.outside_traits.specs.Writing.{WritesAll, WritesPrefix};
 
 use crate::cause::ending_of;
 use crate::done::Done;
 use file_commands::{Line, Report, finish_page};
 use journal_entry::{Entry, LINE_ROOM, TextWriter, What};
-use outside_traits::{Failed, Sink};
-use sink_text::write_all;
+use outside_traits::{Failed, Sink, write_all};
 use station_values::Station;
 use tick_units::Kind;
 use verdict_journal::Journal;

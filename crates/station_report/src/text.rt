@@ -5,16 +5,15 @@ ghost use Rattle.station_report.specs.Crewing.{FinishesDone, HasEach, line_of_wo
 ghost use Rattle.station_report.specs.Crewing.{lines_before_page, lines_of_journal};
 ghost use Rattle.station_report.specs.Headline.{each_text, end_word, link_line};
 ghost use Rattle.file_commands.specs.Reports.{Reports, status_in};
-ghost use Rattle.sink_text.specs.Writing.{WritesAll, WritesPrefix};
+ghost use Rattle.outside_traits.specs.Writing.{WritesAll, WritesPrefix};
 
 use crate::cause::ending_of;
 use crate::done::Done;
 use crew_work::LinkWork;
 use file_commands::{Line, Report, finish_page, write_numbered_line};
 use journal_entry::{LINE_ROOM, TextWriter};
-use outside_traits::{Failed, Sink};
+use outside_traits::{Failed, Sink, write_all};
 use responder::{End, Served};
-use sink_text::write_all;
 use station_values::Station;
 use verdict_journal::Journal;
 

@@ -3,8 +3,7 @@ ghost use Rattle.memory_links.specs.Memory.{sink_state};
 
 use crate::shared::same;
 use memory_links::MemorySink;
-use outside_traits::{Failed, Sink};
-use sink_text::write_all;
+use outside_traits::{Failed, Sink, write_all};
 use std::alloc::{AllocError, Global};
 use std::process::Abort;
 

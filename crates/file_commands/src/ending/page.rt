@@ -12,8 +12,7 @@ use crate::reading::Line;
 use crate::report::Report;
 use clock_page::Page;
 use journal_entry::LINE_ROOM;
-use outside_traits::{Failed, Sink};
-use sink_text::write_all;
+use outside_traits::{Failed, Sink, write_all};
 use system_fold::write_page;
 
 // Writes the line of a page at the beginning of `line`. The answer is its number of bytes.

@@ -7,8 +7,7 @@ ghost use Rattle.file_commands.specs.Writing.{Answers};
 use super::Ending;
 use super::text::status_text;
 use crate::report::Report;
-use outside_traits::{Failed, Sink};
-use sink_text::write_all;
+use outside_traits::{Failed, Sink, write_all};
 
 /// Writes the status line. The answer is the ending, or that a write has failed.
 pub fn finish<K: Sink>(ending: Ending, out: &mut K) -> Report

@@ -7,7 +7,7 @@ ghost use Rattle.file_reader.specs.Ends.{EndsAt};
 ghost use Rattle.file_commands.specs.Taking.{Holds, Says, Fits, given, bad_of};
 ghost use Rattle.file_commands.specs.Taking.{Flow, TakesAll, StopsTaking, EndsTaking, flow_of};
 ghost use Rattle.file_reader.specs.Pieces.{EndsPieces};
-ghost use Rattle.sink_text.specs.Writing.{WritesAll};
+ghost use Rattle.outside_traits.specs.Writing.{WritesAll};
 
 use crate::reading::{Gives, Line, Stop, write_given};
 use file_reader::{FileEnd, LogEnd, PieceTaker, read_pieces};

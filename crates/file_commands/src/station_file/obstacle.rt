@@ -5,14 +5,13 @@ ghost use Rattle.file_commands.specs.Reports.{Reports, status_in};
 ghost use Rattle.file_commands.specs.StationFile.{IsNamed, IsReported, many_line, station_line, status_at, line_at};
 ghost use Rattle.file_commands.specs.Writing.{Answers};
 ghost use Rattle.file_commands.specs.declared.ending.status.Status.TheVariants.{Station};
-ghost use Rattle.sink_text.specs.Writing.{WritesAll, WritesPrefix};
+ghost use Rattle.outside_traits.specs.Writing.{WritesAll, WritesPrefix};
 
 use crate::ending::Ending;
 use crate::ending::text::count_text;
 use crate::ending::writing::finish;
 use crate::report::Report;
-use outside_traits::{Failed, Sink};
-use sink_text::write_all;
+use outside_traits::{Failed, Sink, write_all};
 use station_reader::{KeyText, StationFault};
 
 /// What keeps a station from being used: the end of the run, or a fault of the station file.

@@ -1,6 +1,6 @@
 -- What stays true in the loops of `log_decoder_tests::decoded`.
 use Rattle.std.proofs.Common.{length}
-use Rattle.log_decoder.specs.Decoding.{IsReady}
+use Rattle.radio_receiver.specs.Decoding.{IsReady}
 use Rattle.decode_tests.proofs.log_decoder_tests.decoded.Given as goal
 
 abbrev pub invariant-rest : goal.invariant-rest

@@ -4,7 +4,7 @@ use Rattle.pulse_maker.specs.Made.{seeded}
 use Rattle.pulse_maker.specs.Minutes.{begun}
 use Rattle.pulse_maker.specs.Progress.{HasWritten, HasStopped}
 use Rattle.pulse_maker.specs.declared.seconds.Second.{Second}
-use Rattle.sink_text.proofs.WritingLaws.{on_err}
+use Rattle.outside_traits.proofs.WritingLaws.{on_err}
 use Rattle.pulse_maker.proofs.MakingLaws.{opening_same, minute_same, stopped_at}
 use Rattle.pulse_maker.proofs.OrderLaws.{made_is_read}
 use Rattle.pulse_maker.proofs.maker.make.Goals as goal

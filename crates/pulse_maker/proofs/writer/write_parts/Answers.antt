@@ -1,7 +1,7 @@
 -- What the search leaves open of `writer::write_parts`.
 use Rattle.std.proofs.Common.{rules, ◌≡◌}
 use Rattle.tick_units.specs.declared.marks.Symbol.TheVariants.{OnlyB}
-use Rattle.sink_text.proofs.WritingLaws.{on_err}
+use Rattle.outside_traits.proofs.WritingLaws.{on_err}
 use Rattle.pulse_maker.proofs.LineLaws.{first_stopped, second_stopped}
 use Rattle.pulse_maker.proofs.writer.write_parts.Goals as goal
 

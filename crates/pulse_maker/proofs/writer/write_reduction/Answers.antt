@@ -1,7 +1,7 @@
 -- What the search leaves open of `writer::write_reduction`.
 use Rattle.std.proofs.Common.{ℕ, List, subst}
 use Rattle.std.specs.Prelude.{OnOk, OnErr}
-use Rattle.sink_text.specs.Writing.{WritesAll, WritesPrefix}
+use Rattle.outside_traits.specs.Writing.{WritesAll, WritesPrefix}
 use Rattle.pulse_maker.proofs.LineLaws.{prefix_is_line}
 use Rattle.pulse_maker.proofs.writer.write_reduction.Goals as goal
 

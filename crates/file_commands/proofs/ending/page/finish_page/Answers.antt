@@ -2,7 +2,7 @@
 use Rattle.std.proofs.Common.{ℕ, List, subst}
 use Rattle.file_commands.specs.Endings.{status_of, status_line}
 use Rattle.file_commands.specs.Text.{page_text}
-use Rattle.sink_text.specs.Writing.{WritesAll, WritesPrefix}
+use Rattle.outside_traits.specs.Writing.{WritesAll, WritesPrefix}
 use Rattle.file_commands.proofs.WritingLaws.{answers_more, answers_prefix}
 use Rattle.file_commands.proofs.ReportLaws.{reports_more, reports_none}
 use Rattle.file_commands.proofs.ending.page.finish_page.Goals as goal

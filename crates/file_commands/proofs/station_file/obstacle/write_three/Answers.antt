@@ -1,6 +1,6 @@
 -- What the search leaves open of `station_file::obstacle::write_three`.
 use Rattle.std.proofs.Common.{◌++◌}
-use Rattle.sink_text.proofs.WritingLaws.{prefix_of_both, on_err, on_err_by, writes_prefix}
+use Rattle.outside_traits.proofs.WritingLaws.{prefix_of_both, on_err, on_err_by, writes_prefix}
 use Rattle.file_commands.proofs.station_file.obstacle.write_three.Goals as goal
 
 pub returns-in_err-write_all-clause-err : goal.returns-in_err-write_all-clause-err

@@ -3,7 +3,7 @@ use Rattle.std.proofs.Common.{rules, arith, ◌<◌, List, ◌++◌, length, tak
 use Rattle.pulse_maker.specs.Minutes.{seconds_from}
 use Rattle.pulse_maker.specs.Progress.{HasWritten}
 use Rattle.pulse_maker.specs.declared.seconds.Second.{Second}
-use Rattle.sink_text.proofs.WritingLaws.{on_err}
+use Rattle.outside_traits.proofs.WritingLaws.{on_err}
 use Rattle.pulse_maker.proofs.SecondsLaws.{next_second, stopped_within}
 use Rattle.pulse_maker.proofs.writer.LogWriter.write.Goals as goal
 

@@ -1,8 +1,8 @@
 -- What the search leaves open of `writer::LogWriter::write_second`.
 use Rattle.std.proofs.Common.{◌+◌, length, refl, ap, ◌∙◌, subst}
 use Rattle.pulse_maker.specs.Made.{parts_of, text_of}
-use Rattle.sink_text.specs.Writing.{WritesAll, WritesPrefix}
-use Rattle.sink_text.proofs.WritingLaws.{on_err}
+use Rattle.outside_traits.specs.Writing.{WritesAll, WritesPrefix}
+use Rattle.outside_traits.proofs.WritingLaws.{on_err}
 use Rattle.pulse_maker.proofs.ProgressLaws.{written_push, stopped_push}
 use Rattle.pulse_maker.proofs.writer.LogWriter.write_second.Goals as goal
 
