@@ -8,16 +8,16 @@ use Rattle.outside_traits.specs.Openings.Wanted.{LogOf}
 use Rattle.file_reader.specs.Ends.{HasReadPrefix}
 use Rattle.tick_units.specs.declared.marks.Plan.{Plan}
 use Rattle.tick_units.specs.Log.{bad_line, bad_at_end}
-use Rattle.file_commands.specs.Effects.{Effect}
-use Rattle.file_commands.specs.Endings.{status_of, status_line, ending_at}
-use Rattle.file_commands.specs.Opening.{CannotOpen}
-use Rattle.file_commands.specs.Reading.{ReadsLines}
-use Rattle.file_commands.specs.Text.{log_text}
+use Rattle.command_ends.specs.Effects.{Effect}
+use Rattle.command_ends.specs.Endings.{status_of, status_line, ending_at}
+use Rattle.command_ends.specs.Opening.{CannotOpen}
+use Rattle.line_files.specs.Reading.{ReadsLines}
+use Rattle.line_files.specs.LogText.{log_text}
 use Rattle.outside_traits.specs.Writing.{WritesAll, WritesPrefix}
-use Rattle.file_commands.specs.Writing.{Answers}
-use Rattle.file_commands.specs.declared.ending.status.Status.{Status}
-use Rattle.file_commands.specs.declared.ending.status.Status.TheVariants.{WriteFault}
-use Rattle.file_commands.specs.declared.ending.subject.Subject.TheVariants.{Feed}
+use Rattle.command_ends.specs.Writing.{Answers}
+use Rattle.command_ends.specs.declared.ending.status.Status.{Status}
+use Rattle.command_ends.specs.declared.ending.status.Status.TheVariants.{WriteFault}
+use Rattle.command_ends.specs.declared.ending.subject.Subject.TheVariants.{Feed}
 use Rattle.file_reader.specs.declared.log_end.LogEnd.{LogEnd}
 use Rattle.radio_receiver.specs.Decoding.{most_of_a_log}
 

@@ -10,17 +10,17 @@ use Rattle.journal_entry.specs.declared.entry.Entry.{Entry}
 use Rattle.journal_entry.specs.declared.line.JournalLine.{JournalLine}
 use Rattle.journal_entry.specs.declared.line.JournalLine.TheVariants.{Bare, Numbered}
 use Rattle.journal_entry.specs.declared.numbered.Numbered.{Numbered as NumberedEntry}
-use Rattle.line_cutter.specs.Items.{Saying}
+use Rattle.line_files.specs.Items.{Saying}
 use Rattle.station_values.specs.Station.{StationFields, settings_of}
 use Rattle.system_fold.specs.Numbered.{numbered, numbered_next}
 use Rattle.system_fold.specs.Page.{page_of}
 use Rattle.system_fold.specs.Settings.{SettingsFields}
-use Rattle.file_commands.specs.Effects.{Effect}
-use Rattle.file_commands.specs.Endings.{ending_at}
-use Rattle.file_commands.specs.LineFiles.{LineFile, RunsAgainst, HasGoodFile}
-use Rattle.file_commands.specs.declared.ending.Ending.{Ending}
-use Rattle.file_commands.specs.declared.ending.Ending.TheVariants.{Full}
-use Rattle.file_commands.specs.declared.ending.subject.Subject.TheVariants.{Journal}
+use Rattle.command_ends.specs.Effects.{Effect}
+use Rattle.command_ends.specs.Endings.{ending_at}
+use Rattle.line_files.specs.LineFiles.{LineFile, RunsAgainst, HasGoodFile}
+use Rattle.command_ends.specs.declared.ending.Ending.{Ending}
+use Rattle.command_ends.specs.declared.ending.Ending.TheVariants.{Full}
+use Rattle.command_ends.specs.declared.ending.subject.Subject.TheVariants.{Journal}
 use Rattle.file_reader.specs.declared.log_end.LogEnd.{LogEnd}
 use Rattle.file_reader.specs.declared.log_end.LogEnd.TheVariants as log
 

@@ -16,7 +16,7 @@ use Rattle.station_report.specs.Crewing.{CannotServe, LeavesAll, ServesAll}
 use Rattle.station_report.specs.declared.done.Done.{Done}
 use Rattle.station_report.proofs.RunOfLaws.{leaps_run}
 use Rattle.station_report.proofs.ServingLaws as serving
-use Rattle.file_commands.specs.declared.ending.Ending.TheVariants.{NoMemory}
+use Rattle.command_ends.specs.declared.ending.Ending.TheVariants.{NoMemory}
 
 -- what a crew leaves, but for its logs and links
 abbrev pub done_of : {L T : Type 0} → Ended L T → Done

@@ -2,16 +2,16 @@
 ghost use Rattle.std.specs.Prelude.{◌≡◌, ℕ, ◌<◌, ◌≤◌, ◌⊎◌, IfOk, false};
 ghost use Rattle.station_report.specs.DrillScaffold.{HasDayGear, HasDrilled};
 ghost use Rattle.station_report.specs.Drilling.{Drills};
-ghost use Rattle.file_commands.specs.Effects.{effect_of};
-ghost use Rattle.file_commands.specs.Reports.{Reports, status_in};
-ghost use Rattle.file_commands.specs.Unopened.{Lacks};
+ghost use Rattle.command_ends.specs.Effects.{effect_of};
+ghost use Rattle.command_ends.specs.Reports.{Reports, status_in};
+ghost use Rattle.command_ends.specs.Unopened.{Lacks};
 ghost use Rattle.receiver_rack.specs.Racks.{IsRack};
 ghost use Rattle.station_values.specs.Station.{one_of_each};
 ghost use Rattle.crew_work.specs.Served.{AreBlank};
 ghost use Rattle.station_gear.specs.Opens.{IsWhole};
 
+use command_ends::{Ending, Known, Outcome, finish};
 use drill_day::make_logs;
-use file_commands::{Ending, Known, Outcome, finish};
 use memory_links::SureSource;
 use outside_traits::{Outside, Sink};
 use radio_receiver::{BoxedReceiver, Receiver};

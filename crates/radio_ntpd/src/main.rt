@@ -6,12 +6,12 @@
 ghost use Rattle.std.specs.Prelude.{◌≡◌, MatchResult, false, map};
 ghost use Rattle.std.specs.Process.{exit_status};
 ghost use Rattle.std.specs.String.{string_bytes};
-ghost use Rattle.file_commands.specs.Effects.{effect_of};
-ghost use Rattle.file_commands.specs.Endings.{number_of, status_of, status_line};
-ghost use Rattle.file_commands.specs.Reports.{Reports, status_in};
+ghost use Rattle.command_ends.specs.Effects.{effect_of};
+ghost use Rattle.command_ends.specs.Endings.{number_of, status_of, status_line};
+ghost use Rattle.command_ends.specs.Reports.{Reports, status_in};
 ghost use Rattle.radio_engine.specs.Run.{IsRun};
-ghost use Rattle.file_commands.specs.Writing.{Answers};
-ghost use Rattle.file_commands.specs.declared.ending.Ending.TheVariants.{NoMemory};
+ghost use Rattle.command_ends.specs.Writing.{Answers};
+ghost use Rattle.command_ends.specs.declared.ending.Ending.TheVariants.{NoMemory};
 
 mod arguments;
 

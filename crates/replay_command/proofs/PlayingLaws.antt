@@ -4,7 +4,7 @@ use Rattle.radio_receiver.specs.Histories.{History}
 use Rattle.script_player.specs.KeptPlayer.{HasPlayed}
 use Rattle.script_player.specs.Replay.{Played, ReplayCase, outcome}
 use Rattle.script_player.specs.Texts.{outcome_text, replay_text}
-use Rattle.file_commands.specs.LineTaking.{LineTexts, TakesLine}
+use Rattle.line_files.specs.LineTaking.{LineTexts, TakesLine}
 use Rattle.replay_command.specs.Playing.{script_taker, script_way}
 use Rattle.replay_command.specs.Script.{says_played}
 use Rattle.replay_command.specs.declared.replay.replayer.Replayer.{Replayer}

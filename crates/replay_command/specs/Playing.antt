@@ -6,7 +6,7 @@ use Rattle.script_player.specs.KeptPlayer.{HasPlayed}
 use Rattle.script_player.specs.Texts.{outcome_text}
 use Rattle.script_player.specs.declared.outcome.Invalid.{Invalid}
 use Rattle.script_player.specs.declared.player.Player.{Player}
-use Rattle.file_commands.specs.LineTaking.{IsTakenBy, LineTaker, LineTexts, LineWay, file_says, line_taker}
+use Rattle.line_files.specs.LineTaking.{IsTakenBy, LineTaker, LineTexts, LineWay, file_says, line_taker}
 use Rattle.replay_command.specs.Replaying.{script_of}
 use Rattle.replay_command.specs.Script.{says_played}
 use Rattle.replay_command.specs.declared.replay.replayer.Replayer.{Replayer}

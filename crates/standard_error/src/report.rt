@@ -5,7 +5,7 @@ use crate::{
     SAMPLE_BYTES, TomlFault, file_of, is_leap_file, no_minute_text, read_arguments, toml_fault,
     value_of,
 };
-use file_commands::{Ending, Outcome, Report, STATION_LIMIT, Subject};
+use command_ends::{Ending, Outcome, Report, STATION_LIMIT, Subject};
 use host_links::Refusal;
 use station_reader::{StationFault, read_station};
 use station_values::Station;

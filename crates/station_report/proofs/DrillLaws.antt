@@ -34,15 +34,15 @@ use Rattle.station_report.specs.Crewing.{LeavesAll, causes_left}
 use Rattle.file_commands.specs.Decoding.{IsGoodLog}
 use Rattle.station_report.specs.DrillScaffold.{FinishesDrill, HasDayGear, HasDrilled, feed_lines}
 use Rattle.station_report.specs.Drilling.{Drills, day_journal, day_run, drill_text, feed_line, whole_run}
-use Rattle.file_commands.specs.Endings.{status_line, status_of}
+use Rattle.command_ends.specs.Endings.{status_line, status_of}
 use Rattle.station_report.specs.Headline.{HasDueEntries, IsReported, LeapRun, LinkRun, LogRun, PollRun, StationRun, due_in_all, dues, each_cause, full_cause, leap_dues, link_cause, log_cause, poll_cause, radio_dues, server_dues}
 use Rattle.station_report.specs.Serving.{IsGoodLogRun}
-use Rattle.file_commands.specs.Text.{page_text}
-use Rattle.file_commands.specs.Effects.{effect_of}
-use Rattle.file_commands.specs.Writing.{Answers}
-use Rattle.file_commands.specs.declared.ending.Ending.{Ending}
-use Rattle.file_commands.specs.declared.ending.Ending.TheVariants.{Full, Whole}
-use Rattle.file_commands.specs.declared.ending.status.Status.{Status}
+use Rattle.command_ends.specs.Text.{page_text}
+use Rattle.command_ends.specs.Effects.{effect_of}
+use Rattle.command_ends.specs.Writing.{Answers}
+use Rattle.command_ends.specs.declared.ending.Ending.{Ending}
+use Rattle.command_ends.specs.declared.ending.Ending.TheVariants.{Full, Whole}
+use Rattle.command_ends.specs.declared.ending.status.Status.{Status}
 use Rattle.station_report.specs.declared.done.Done.{Done}
 use Rattle.crew_work.specs.declared.work.Orders.{Orders}
 use Rattle.station_report.proofs.GoodStationLaws.{good_logs}

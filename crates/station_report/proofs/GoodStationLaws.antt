@@ -34,22 +34,23 @@ use Rattle.station_reader.specs.declared.fault.StationFault.TheVariants as fault
 use Rattle.crew_work.specs.Lists.{Pairs}
 use Rattle.crew_work.proofs.ListLaws.{length-is-some}
 use Rattle.file_commands.specs.Decoding.{IsGoodLog}
-use Rattle.file_commands.specs.Endings.{status_of}
+use Rattle.command_ends.specs.Endings.{status_of}
 use Rattle.station_report.specs.Headline.{EndsPhases, IsAnswered, IsPolled, IsReported, LeapRun, LinkRun, LogRun, PollRun, StationRun, causes, due_in_all, dues, each_cause, full_cause, leap_dues, link_cause, log_cause, poll_cause, radio_dues, server_dues}
 use Rattle.crew_work.specs.declared.work.Orders.{Orders}
 use Rattle.station_report.specs.Serving.{EndsUnserved, HasGoodStation, IsGoodLeapRun, IsGoodLink, IsGoodList, IsGoodLogRun, RunsServe, ServesStation, back_in, opened_in}
-use Rattle.file_commands.specs.StationFile.{EndsAtStation, IsObstacle, IsStation, line_at, most_of_a_station, status_at}
-use Rattle.file_commands.specs.Effects.{Effect}
-use Rattle.file_commands.specs.Writing.{Answers}
-use Rattle.file_commands.specs.declared.ending.Ending.{Ending}
-use Rattle.file_commands.specs.declared.ending.Ending.TheVariants as ending
-use Rattle.file_commands.specs.declared.ending.status.Status.{Status}
-use Rattle.file_commands.specs.declared.ending.status.Status.TheVariants.{Done, Memory}
-use Rattle.file_commands.specs.declared.station_file.obstacle.Obstacle.{Obstacle}
-use Rattle.file_commands.proofs.GoodLogLaws.{prefix_by, prefix_of, good_reach, none_left, rose_by_one, whole_text}
-use Rattle.file_commands.proofs.LineFileLaws.{read_station}
-use Rattle.file_commands.proofs.OpeningLaws.{first_of, not_failed, rest_of, same_more, same_states}
-use Rattle.file_commands.proofs.EndLaws.{prefix_of_whole}
+use Rattle.command_ends.specs.StationFile.{EndsAtStation, IsObstacle, IsStation, line_at, most_of_a_station, status_at}
+use Rattle.command_ends.specs.Effects.{Effect}
+use Rattle.command_ends.specs.Writing.{Answers}
+use Rattle.command_ends.specs.declared.ending.Ending.{Ending}
+use Rattle.command_ends.specs.declared.ending.Ending.TheVariants as ending
+use Rattle.command_ends.specs.declared.ending.status.Status.{Status}
+use Rattle.command_ends.specs.declared.ending.status.Status.TheVariants.{Done, Memory}
+use Rattle.command_ends.specs.declared.station_file.obstacle.Obstacle.{Obstacle}
+use Rattle.file_commands.proofs.GoodLogLaws.{prefix_by, good_reach}
+use Rattle.line_files.proofs.PrefixLaws.{prefix_of, none_left, rose_by_one, whole_text}
+use Rattle.line_files.proofs.LineFileLaws.{read_station}
+use Rattle.command_ends.proofs.OpeningLaws.{first_of, not_failed, rest_of, same_more, same_states}
+use Rattle.line_files.proofs.EndLaws.{prefix_of_whole}
 use Rattle.station_report.proofs.RunOfLaws.{polled-length}
 
 -- where no write failed, the status is the one that is due

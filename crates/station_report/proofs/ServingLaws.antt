@@ -32,23 +32,23 @@ use Rattle.station_gear.proofs.GearLaws.{all_visited, gear_sizes, same_numbers, 
 use Rattle.system_fold.specs.Page.{page_of}
 use Rattle.crew_work.specs.Served.{seen, sights_of}
 use Rattle.station_report.specs.Crewing.{CannotServe, FinishesDone, GivesServed, GivesUnused, HasEach, IsLeftOf, LeavesAll, ServesAll, TriesServe, any_full, causes_left, end_of, line_of_work, lines_left, subject_of}
-use Rattle.file_commands.specs.Effects.{effect_of}
-use Rattle.file_commands.specs.Endings.{status_of, status_line}
+use Rattle.command_ends.specs.Effects.{effect_of}
+use Rattle.command_ends.specs.Endings.{status_of, status_line}
 use Rattle.station_report.specs.Headline.{HasDueEntries, IsReported, LeapRun, LinkRun, LogRun, PollRun, StationRun, causes, dues, each_cause, each_text, full_cause, leap_dues, link_cause, log_cause, poll_cause, radio_dues, served_text, server_dues}
-use Rattle.file_commands.specs.Keeping.{OpensStation}
+use Rattle.command_ends.specs.Keeping.{OpensStation}
 use Rattle.file_commands.specs.Migrating.{journal_text}
 use Rattle.station_report.specs.Serving.{LacksOne, RunsServe, subject_at}
-use Rattle.file_commands.specs.StationFile.{IsObstacle, line_at, status_at}
-use Rattle.file_commands.specs.Text.{page_text}
-use Rattle.file_commands.specs.Writing.{Answers}
-use Rattle.file_commands.specs.declared.ending.Ending.{Ending}
-use Rattle.file_commands.specs.declared.ending.Ending.TheVariants.{NoMemory, NotOpened}
-use Rattle.file_commands.specs.declared.ending.status.Status.{Status}
-use Rattle.file_commands.specs.declared.ending.subject.Subject.{Subject}
-use Rattle.file_commands.specs.declared.ending.subject.Subject.TheVariants.{Feed, Link}
+use Rattle.command_ends.specs.StationFile.{IsObstacle, line_at, status_at}
+use Rattle.command_ends.specs.Text.{page_text}
+use Rattle.command_ends.specs.Writing.{Answers}
+use Rattle.command_ends.specs.declared.ending.Ending.{Ending}
+use Rattle.command_ends.specs.declared.ending.Ending.TheVariants.{NoMemory, NotOpened}
+use Rattle.command_ends.specs.declared.ending.status.Status.{Status}
+use Rattle.command_ends.specs.declared.ending.subject.Subject.{Subject}
+use Rattle.command_ends.specs.declared.ending.subject.Subject.TheVariants.{Feed, Link}
 use Rattle.station_report.specs.declared.done.Done.{Done}
 use Rattle.crew_work.specs.declared.work.Orders.{Orders}
-use Rattle.file_commands.specs.declared.station_file.obstacle.Obstacle.{Obstacle}
+use Rattle.command_ends.specs.declared.station_file.obstacle.Obstacle.{Obstacle}
 use Rattle.station_report.proofs.CountLaws.{HaveDue, beginnings, have_both, is_counted, is_lost, is_so, none_lost, wholes}
 use Rattle.station_report.proofs.RunOfLaws.{LeapsRun, LinksRun, LogsRun, PollsRun, leap_dues-length, leaps_run, links_run, logs_run, polled-length, polls_run, radio_dues-length}
 

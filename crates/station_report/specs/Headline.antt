@@ -42,14 +42,14 @@ use Rattle.crew_work.specs.Served.{IsReadOf}
 use Rattle.crew_work.specs.declared.work.Orders.{Orders}
 use Rattle.system_fold.specs.Page.{page_of}
 use Rattle.system_fold.specs.Settings.{IsJournal}
-use Rattle.file_commands.specs.Endings.{number_of, status_of, status_line}
+use Rattle.command_ends.specs.Endings.{number_of, status_of, status_line}
 use Rattle.file_commands.specs.Migrating.{journal_text}
-use Rattle.file_commands.specs.Text.{page_text}
-use Rattle.file_commands.specs.Writing.{Answers}
-use Rattle.file_commands.specs.declared.ending.Ending.{Ending}
-use Rattle.file_commands.specs.declared.ending.Ending.TheVariants.{Whole, NotRead, WrongLine, Full, LinkFailed, Long}
-use Rattle.file_commands.specs.declared.ending.status.Status.{Status}
-use Rattle.file_commands.specs.declared.ending.subject.Subject.TheVariants.{Feed, Link}
+use Rattle.command_ends.specs.Text.{page_text}
+use Rattle.command_ends.specs.Writing.{Answers}
+use Rattle.command_ends.specs.declared.ending.Ending.{Ending}
+use Rattle.command_ends.specs.declared.ending.Ending.TheVariants.{Whole, NotRead, WrongLine, Full, LinkFailed, Long}
+use Rattle.command_ends.specs.declared.ending.status.Status.{Status}
+use Rattle.command_ends.specs.declared.ending.subject.Subject.TheVariants.{Feed, Link}
 
 -- what became of the log of a radio: what it reported when it was opened and when it was given back, the bytes that were read of it, and how
 -- its reading ended

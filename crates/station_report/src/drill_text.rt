@@ -4,12 +4,12 @@ ghost use Rattle.journal_entry.specs.declared.writer.TheConstants.{LINE_ROOM};
 ghost use Rattle.page_cell.specs.Claims.{of_feed};
 ghost use Rattle.station_report.specs.Crewing.{HasEach};
 ghost use Rattle.station_report.specs.DrillScaffold.{Counted, CountsFound, CountsOne, CountsUpTo, FinishesDrill, answer_found, answer_in, feed_lines, line_of_feed};
-ghost use Rattle.file_commands.specs.Reports.{Reports, status_in};
+ghost use Rattle.command_ends.specs.Reports.{Reports, status_in};
 ghost use Rattle.outside_traits.specs.Writing.{WritesAll, WritesPrefix};
 
 use crate::cause::ending_of;
 use crate::done::Done;
-use file_commands::{Line, Report, finish_page};
+use command_ends::{Line, Report, finish_page};
 use journal_entry::{Entry, LINE_ROOM, TextWriter, What};
 use outside_traits::{Failed, Sink, write_all};
 use station_values::Station;

@@ -4,14 +4,15 @@ ghost use Rattle.journal_entry.specs.declared.writer.TheConstants.{LINE_ROOM};
 ghost use Rattle.station_report.specs.Crewing.{FinishesDone, HasEach, line_of_work, totals_by, totals_of};
 ghost use Rattle.station_report.specs.Crewing.{lines_before_page, lines_of_journal};
 ghost use Rattle.station_report.specs.Headline.{each_text, end_word, link_line};
-ghost use Rattle.file_commands.specs.Reports.{Reports, status_in};
+ghost use Rattle.command_ends.specs.Reports.{Reports, status_in};
 ghost use Rattle.outside_traits.specs.Writing.{WritesAll, WritesPrefix};
 
 use crate::cause::ending_of;
 use crate::done::Done;
+use command_ends::{Line, Report, finish_page};
 use crew_work::LinkWork;
-use file_commands::{Line, Report, finish_page, write_numbered_line};
 use journal_entry::{LINE_ROOM, TextWriter};
+use line_files::write_numbered_line;
 use outside_traits::{Failed, Sink, write_all};
 use responder::{End, Served};
 use station_values::Station;

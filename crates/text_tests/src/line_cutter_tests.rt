@@ -2,7 +2,7 @@
 ghost use Rattle.std.specs.Prelude.{◌<◌};
 
 use crate::shared::same;
-use line_cutter::{Cut, LineCutter};
+use line_files::{Cut, LineCutter};
 use std::alloc::{AllocError, Global};
 use std::process::Abort;
 

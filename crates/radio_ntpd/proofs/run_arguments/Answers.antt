@@ -1,8 +1,8 @@
 -- Each receiver that is put in the rack is a blank one, since its `new` says so of what is boxed; and four of each plan are a rack.
 use Rattle.std.proofs.Common.{◌≡◌, ◌∙◌, ℕ, List, map, ap, refl, sym, subst, inl, inr, arith, rules}
 use Rattle.std.specs.String.{string_bytes}
-use Rattle.file_commands.specs.Effects.{effect_of}
-use Rattle.file_commands.specs.Reports.{status_in}
+use Rattle.command_ends.specs.Effects.{effect_of}
+use Rattle.command_ends.specs.Reports.{status_in}
 use Rattle.radio_engine.specs.Run.{IsRun}
 use denote.Param.Object.{read_made}
 use Rattle.tick_units.specs.declared.marks.Plan.TheVariants.{Dcf, Msf, Wwvb}
