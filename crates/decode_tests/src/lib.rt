@@ -7,13 +7,13 @@
 #[cfg(test)]
 mod counting_tests;
 #[cfg(test)]
+mod decoder_tests;
+#[cfg(test)]
 mod drill_day_tests;
 #[cfg(test)]
 mod frame_tests;
 #[cfg(test)]
 mod leap_tests;
-#[cfg(test)]
-mod log_decoder_tests;
 #[cfg(test)]
 mod minute_pair_tests;
 #[cfg(test)]

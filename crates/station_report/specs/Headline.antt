@@ -4,15 +4,15 @@
 -- one than that link used before, or the kiss code that its sender gets, and authentic exactly where the one received is.
 -- Six records say it, and `IsServed` at the end has all of them.
 -- Read on in this order; each file names its source. docs/HEADLINE.md has examples, and what is trusted.
---   what an object reports, and its faults    outside_traits Told, Faults
---   how far a file is read                    file_reader Ends; log_decoder Decoding; feed_workers Logs, Leaps
+--   what an object reports, and its faults    outside_traits States, Faults
+--   how far a file is read                    file_reader Ends; radio_receiver Decoding; feed_workers Logs, Leaps
 --   how a server is polled                    poll_core Histories; feed_workers Polls, Polling
 --   which client passes                       packet_auth Keys; kiss_gate Nets, Clients, Gates
 --   a station, its journal and its page       system_fold Settings; station_values Station; page_cell Claims; crew_work Lists; clock_page Page
 --   the turns of a link                       responder Turns; crew_work Served; responder Serving
---   texts and statuses                        sink_text Writing; journal_entry Texts; system_fold Numbered; file_commands Writing, Endings, Text, Migrating
--- Taken on their tests: due_log (log_decoder Due), leap_seconds (leap_file Rows), page_of (system_fold Page),
--- judge (poll_core Histories), reply_to (sealed_reply Replies).
+--   texts and statuses                        outside_traits Writing; journal_entry Texts; system_fold Numbered; command_ends Writing, Endings, Text; file_commands Migrating
+-- Taken on their tests: due_log (radio_receiver Due), leap_seconds (leap_file Rows), page_of (system_fold Page),
+-- judge (poll_core Histories), reply_to (reply_core Replies).
 use Rattle.std.specs.Prelude.{◌≡◌, ◌≢◌, ◌⊎◌, ℕ, suc, ◌*◌, ◌<◌, ◌≤◌, min, nat_lt, Bool, Option, None, Some, IfSome, is_some, List, [], ◌∷◌, ◌++◌, All, length, slice_get, codes, decimal, if◌then◌else◌}
 use Rattle.std.specs.List.{flat_map, sum_by}
 use Rattle.std.specs.Option.{option_to_list}

@@ -5,9 +5,9 @@ ghost use Rattle.radio_receiver.specs.Decoding.{IsReady};
 
 use crate::shared::same;
 use journal_entry::{ENTRY_ROOM, Entry, write_entry};
-use radio_receiver::{BoxedReceiver, DcfReceiver, LOG_LIMIT, LogDecoder, Receiver};
 use memory_outside::{NOON_0, NOON_1};
 use pulse_log::{BadLine, Taken};
+use radio_receiver::{BoxedReceiver, DcfReceiver, LOG_LIMIT, LogDecoder, Receiver};
 use std::alloc::Global;
 use std::process::Abort;
 use std::test::Fail;
