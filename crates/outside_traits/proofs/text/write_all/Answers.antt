@@ -2,7 +2,7 @@
 use Rattle.std.proofs.Common.{◌++◌, take, drop, ap, sym, ◌∙◌, append_assoc}
 use Rattle.std.proofs.lemmas.List.{take-append-drop}
 use Rattle.outside_traits.proofs.WritingLaws.{writes_more}
-use Rattle.outside_traits.proofs.write_all.Goals as goal
+use Rattle.outside_traits.proofs.text.write_all.Goals as goal
 
 pub rest-preserved : goal.rest-preserved
 rest-preserved g c =

@@ -1,7 +1,7 @@
 -- What stays true in the loop of `write_all`.
 use Rattle.std.proofs.Common.{◌≡◌, ℕ, List, ◌++◌, length}
 use Rattle.outside_traits.specs.Writing.{WritesAll}
-use Rattle.outside_traits.proofs.write_all.Given as goal
+use Rattle.outside_traits.proofs.text.write_all.Given as goal
 
 -- what was written so far is the beginning of the text
 abbrev pub invariant-rest : goal.invariant-rest

@@ -1,7 +1,7 @@
 -- What was taken of the host's list stands before what is left of it.
 use Rattle.std.proofs.Common.{◌≡◌, ◌++◌, length}
 use Rattle.std.specs.Vec.Iter.{into_iter_items, into_iter_len}
-use Rattle.radio_ntpd.proofs.listed.Given as goal
+use Rattle.radio_ntpd.proofs.arguments.listed.Given as goal
 
 abbrev pub invariant-loop-argument : goal.invariant-loop-argument
 invariant-loop-argument l = record {
