@@ -17,7 +17,7 @@ use Rattle.command_ends.specs.Endings.{status_of, status_line, ending_at}
 use Rattle.line_files.specs.LogTaking.{IsDecodedBy, log_says}
 use Rattle.line_files.specs.Reading.{ReadsLines}
 use Rattle.line_files.specs.Taking.{flow_of, EndsItself, EndsStopped}
-use Rattle.line_files.specs.LogText.{log_text}
+use Rattle.line_files.specs.Texts.{log_text}
 use Rattle.outside_traits.specs.Writing.{WritesAll}
 use Rattle.command_ends.specs.Writing.{Answers}
 use Rattle.command_ends.specs.declared.ending.status.Status.{Status}

@@ -2,6 +2,7 @@
 pub mod CuttingLaws
 pub mod ItemLaws
 pub mod EndLaws
+pub mod GoodLogLaws
 pub mod LineFileLaws
 pub mod LineTakingLaws
 pub mod LogTakingLaws

@@ -14,7 +14,7 @@ use Rattle.tick_units.specs.declared.marks.Plan.{Plan}
 use Rattle.line_files.specs.LogTaking.{IsDecodedBy, IsFound, log_says}
 use Rattle.line_files.specs.Reading.{bad_in_the_end}
 use Rattle.line_files.specs.Taking.{Gives, given, bad_of}
-use Rattle.line_files.specs.LogText.{log_text}
+use Rattle.line_files.specs.Texts.{log_text}
 
 text_none : (plan : Plan) → ◌≡◌ {A = List ℕ} [] (log_text plan [])
 text_none plan = ap lines_of_entries (sym (due_none 0 plan 0))

@@ -8,7 +8,7 @@ use Rattle.radio_receiver.specs.Due.{entry_line}
 use Rattle.radio_receiver.specs.declared.decoder.LogDecoder.{LogDecoder}
 use Rattle.pulse_log.specs.declared.reader.BadLine.{BadLine}
 use Rattle.radio_receiver.specs.Histories.{History}
-use Rattle.line_files.specs.LogText.{log_text}
+use Rattle.line_files.specs.Texts.{log_text}
 use Rattle.line_files.specs.Taking.{Gives, given}
 
 -- it has taken these bytes as feed 0 without a path delay, and given their text; this is their first bad line

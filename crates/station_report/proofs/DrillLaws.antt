@@ -31,7 +31,7 @@ use Rattle.tick_units.specs.declared.verdicts.Heard.{Heard}
 use Rattle.radio_receiver.specs.Histories.{answers_of}
 use Rattle.crew_work.specs.Served.{seen, sights_of}
 use Rattle.station_report.specs.Crewing.{LeavesAll, causes_left}
-use Rattle.file_commands.specs.Decoding.{IsGoodLog}
+use Rattle.line_files.specs.GoodLogs.{IsGoodLog}
 use Rattle.station_report.specs.DrillScaffold.{FinishesDrill, HasDayGear, HasDrilled, feed_lines}
 use Rattle.station_report.specs.Drilling.{Drills, day_journal, day_run, drill_text, feed_line, whole_run}
 use Rattle.command_ends.specs.Endings.{status_line, status_of}

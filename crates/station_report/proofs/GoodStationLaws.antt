@@ -33,7 +33,7 @@ use Rattle.station_reader.specs.declared.fault.StationFault.{StationFault}
 use Rattle.station_reader.specs.declared.fault.StationFault.TheVariants as fault
 use Rattle.crew_work.specs.Lists.{Pairs}
 use Rattle.crew_work.proofs.ListLaws.{length-is-some}
-use Rattle.file_commands.specs.Decoding.{IsGoodLog}
+use Rattle.line_files.specs.GoodLogs.{IsGoodLog}
 use Rattle.command_ends.specs.Endings.{status_of}
 use Rattle.station_report.specs.Headline.{EndsPhases, IsAnswered, IsPolled, IsReported, LeapRun, LinkRun, LogRun, PollRun, StationRun, causes, due_in_all, dues, each_cause, full_cause, leap_dues, link_cause, log_cause, poll_cause, radio_dues, server_dues}
 use Rattle.crew_work.specs.declared.work.Orders.{Orders}
@@ -46,7 +46,7 @@ use Rattle.command_ends.specs.declared.ending.Ending.TheVariants as ending
 use Rattle.command_ends.specs.declared.ending.status.Status.{Status}
 use Rattle.command_ends.specs.declared.ending.status.Status.TheVariants.{Done, Memory}
 use Rattle.command_ends.specs.declared.station_file.obstacle.Obstacle.{Obstacle}
-use Rattle.file_commands.proofs.GoodLogLaws.{prefix_by, good_reach}
+use Rattle.line_files.proofs.GoodLogLaws.{prefix_by, good_reach}
 use Rattle.line_files.proofs.PrefixLaws.{prefix_of, none_left, rose_by_one, whole_text}
 use Rattle.line_files.proofs.LineFileLaws.{read_station}
 use Rattle.command_ends.proofs.OpeningLaws.{first_of, not_failed, rest_of, same_more, same_states}
@@ -293,7 +293,7 @@ no_faults bytes of says top document =
     ap faults_of same ∙ says.no_fault
 
 -- a text that says a station is not refused
-not_refused : (bytes : List ℕ) (of : StationFields) (why : StationFault) → Says bytes of → RefusesStation bytes why → Rattle.file_commands.specs.StationFile.IsNamed why → ⊥
+not_refused : (bytes : List ℕ) (of : StationFields) (why : StationFault) → Says bytes of → RefusesStation bytes why → Rattle.command_ends.specs.StationFile.IsNamed why → ⊥
 not_refused bytes of fault.Memory says refuses named = named
 not_refused bytes of fault.NotToml says refuses named = refuses says.top says.document
 not_refused bytes of (fault.UnknownKey key) says refuses named = one_fault (faults_of refuses.0) _ (no_faults bytes of says refuses.0 refuses.1) refuses.2

@@ -36,7 +36,7 @@ use Rattle.command_ends.specs.Effects.{effect_of}
 use Rattle.command_ends.specs.Endings.{status_of, status_line}
 use Rattle.station_report.specs.Headline.{HasDueEntries, IsReported, LeapRun, LinkRun, LogRun, PollRun, StationRun, causes, dues, each_cause, each_text, full_cause, leap_dues, link_cause, log_cause, poll_cause, radio_dues, served_text, server_dues}
 use Rattle.command_ends.specs.Keeping.{OpensStation}
-use Rattle.file_commands.specs.Migrating.{journal_text}
+use Rattle.line_files.specs.Texts.{journal_text}
 use Rattle.station_report.specs.Serving.{LacksOne, RunsServe, subject_at}
 use Rattle.command_ends.specs.StationFile.{IsObstacle, line_at, status_at}
 use Rattle.command_ends.specs.Text.{page_text}

@@ -20,7 +20,7 @@ use Rattle.system_fold.specs.Page.{page_of}
 use Rattle.verdict_journal.specs.Journals.{State}
 use Rattle.command_ends.specs.Endings.{status_of, status_line}
 use Rattle.station_report.specs.Headline.{AnswersLinks, HasDueEntries, IsFirstOfLeast, IsReported, PollsServers, ReadsLogs, StationRun, Tally, causes, each_cause, each_text, full_cause, line_of_link, link_cause, link_line, log_cause, poll_cause}
-use Rattle.file_commands.specs.Migrating.{journal_text}
+use Rattle.line_files.specs.Texts.{journal_text}
 use Rattle.station_report.specs.Serving.{LacksOne, back_in, opened_in}
 use Rattle.command_ends.specs.Text.{page_text}
 use Rattle.command_ends.specs.Writing.{Answers}

@@ -10,7 +10,7 @@
 --   which client passes                       packet_auth Keys; kiss_gate Nets, Clients, Gates
 --   a station, its journal and its page       system_fold Settings; station_values Station; page_cell Claims; crew_work Lists; clock_page Page
 --   the turns of a link                       responder Turns; crew_work Served; responder Serving
---   texts and statuses                        outside_traits Writing; journal_entry Texts; system_fold Numbered; command_ends Writing, Endings, Text; file_commands Migrating
+--   texts and statuses                        outside_traits Writing; journal_entry Texts; system_fold Numbered; command_ends Writing, Endings, Text; line_files Texts
 -- Taken on their tests: due_log (radio_receiver Due), leap_seconds (leap_file Rows), page_of (system_fold Page),
 -- judge (poll_core Histories), reply_to (reply_core Replies).
 use Rattle.std.specs.Prelude.{◌≡◌, ◌≢◌, ◌⊎◌, ℕ, suc, ◌*◌, ◌<◌, ◌≤◌, min, nat_lt, Bool, Option, None, Some, IfSome, is_some, List, [], ◌∷◌, ◌++◌, All, length, slice_get, codes, decimal, if◌then◌else◌}
@@ -43,7 +43,7 @@ use Rattle.crew_work.specs.declared.work.Orders.{Orders}
 use Rattle.system_fold.specs.Page.{page_of}
 use Rattle.system_fold.specs.Settings.{IsJournal}
 use Rattle.command_ends.specs.Endings.{number_of, status_of, status_line}
-use Rattle.file_commands.specs.Migrating.{journal_text}
+use Rattle.line_files.specs.Texts.{journal_text}
 use Rattle.command_ends.specs.Text.{page_text}
 use Rattle.command_ends.specs.Writing.{Answers}
 use Rattle.command_ends.specs.declared.ending.Ending.{Ending}

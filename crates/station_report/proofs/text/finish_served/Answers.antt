@@ -4,7 +4,7 @@ use Rattle.clock_page.specs.Page.{PageFields}
 use Rattle.station_report.specs.Crewing.{line_of_work}
 use Rattle.command_ends.specs.Endings.{status_of, status_line}
 use Rattle.station_report.specs.Headline.{each_text}
-use Rattle.file_commands.specs.Migrating.{journal_text}
+use Rattle.line_files.specs.Texts.{journal_text}
 use Rattle.command_ends.specs.Text.{page_text}
 use Rattle.command_ends.specs.Reports.{status_in}
 use Rattle.command_ends.specs.Writing.{Answers}
