@@ -7,9 +7,9 @@
 set -eu
 replies=${1:-10000}
 . "$(dirname "$0")/small_program.sh"
-bring "$work" tick_units ntp_packet packet_auth clock_page reply_core
+bring "$work" tick_units ntp_packet packet_auth clock_page reply_core sealed_reply
 mkdir -p "$work/crates/seal_loop/src"
-echo 'seal_loop: tick_units clock_page packet_auth reply_core' >> "$work/crates.txt"
+echo 'seal_loop: tick_units clock_page packet_auth reply_core sealed_reply' >> "$work/crates.txt"
 cp "$top/bench/programs/seal_loop.rt.in" "$work/crates/seal_loop/src/main.rt"
 gcc -O2 -w -o "$work/plain" "$top/bench/plain_seal.c" -lcrypto
 build "$work/crates/seal_loop" 1

@@ -5,7 +5,8 @@ ghost use Rattle.packet_auth.specs.Keys.{keys_of};
 use crate::shared::{self, ANSWER, BY_LONGWAVE, DENY, moment, of_a_radio, same};
 use memory_outside::REQUEST;
 use packet_auth::KeyRing;
-use reply_core::{Code, Dropped, Reply, Request};
+use reply_core::{Code, Dropped};
+use sealed_reply::{Reply, Request};
 use std::process::Abort;
 
 // MD5 of `shortwave` and the request.

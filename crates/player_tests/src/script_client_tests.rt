@@ -5,7 +5,7 @@ use journal_entry::LINE_ROOM;
 use memory_outside::REQUEST_DIGITS;
 use packet_auth::KeyRing;
 use script_player::{Outcome, write_outcome};
-use reply_core::sealed_like;
+use sealed_reply::sealed_like;
 use std::alloc::Global;
 use std::process::Abort;
 

@@ -14,7 +14,7 @@ use Rattle.reply_core.specs.Reply.{request_of}
 use Rattle.reply_core.specs.declared.code.Code.{Code}
 use Rattle.reply_core.specs.declared.code.Code.TheVariants.{Pass, Deny, Rate}
 use Rattle.reply_core.specs.declared.dropped.Dropped.{Dropped as Reason}
-use Rattle.reply_core.specs.Replies.{reply_to}
+use Rattle.sealed_reply.specs.Replies.{reply_to}
 
 -- a datagram: its sender, when it came, its bytes
 pub record Request : Type 0 where

@@ -11,7 +11,7 @@ use kiss_gate::ClientGate;
 use outside_traits::{Arrival, Failed, Gate, Hearing, Link};
 use packet_auth::KeyRing;
 use page_cell::{PageCell, ReadPass};
-use reply_core::{Reply, Request};
+use sealed_reply::{Reply, Request};
 use std::sync::Wait;
 
 // The numbers of responders at the gate begin here.

@@ -4,7 +4,7 @@ ghost use Rattle.std.specs.Prelude.{◌<◌};
 use kiss_gate::ClientGate;
 use packet_auth::KeyRing;
 use page_cell::ReadPass;
-use reply_core::Reply;
+use sealed_reply::Reply;
 
 /// Serves the clients of a link from the shared page.
 #[derive(Drop)]

@@ -12,7 +12,7 @@ use Rattle.poll_core.specs.Formulas.{request_header}
 use Rattle.reply_core.specs.Reply.{request_of}
 use Rattle.reply_core.specs.declared.code.Code.{Code}
 use Rattle.reply_core.specs.declared.dropped.Dropped.{Dropped as WhyDropped}
-use Rattle.reply_core.specs.Replies.{reply_to}
+use Rattle.sealed_reply.specs.Replies.{reply_to}
 use Rattle.kiss_gate.specs.Clients.{IsJudged, after, code_of as code_for}
 use Rattle.kiss_gate.specs.declared.judged.Judged.{Judged}
 use Rattle.system_fold.specs.Settings.{SettingsFields}

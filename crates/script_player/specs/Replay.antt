@@ -22,7 +22,7 @@ use Rattle.ntp_packet.specs.Layout.{layout}
 use Rattle.ntp_packet.specs.declared.header.Header.{Header}
 use Rattle.reply_core.specs.Reply.{request_of}
 use Rattle.reply_core.specs.declared.dropped.Dropped.{Dropped as WhyDropped}
-use Rattle.reply_core.specs.Replies.{reply_to}
+use Rattle.sealed_reply.specs.Replies.{reply_to}
 use Rattle.kiss_gate.specs.Clients.{MayBeKept, after, code_of as code_for}
 use Rattle.kiss_gate.specs.Gates.{Gate}
 use Rattle.clock_page.specs.Page.{PageFields}

@@ -1,7 +1,7 @@
 //! What a line of a script gives.
 use journal_entry::Numbered;
 use reply_core::Dropped as WhyDropped;
-use reply_core::Reply;
+use sealed_reply::Reply;
 
 /// What a line of a script gives.
 #[derive(Clone, Copy, Debug, PartialEq, Eq)]

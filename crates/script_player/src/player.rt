@@ -18,7 +18,7 @@ use kiss_gate::ClientGate;
 use packet_auth::KeyRing;
 use radio_receiver::Receiver;
 use script_line::{Datagram, ScriptLine};
-use reply_core::Request;
+use sealed_reply::Request;
 use station_values::Station;
 use std::alloc::{AllocError, Global};
 use tick_units::{Local, Reduction};

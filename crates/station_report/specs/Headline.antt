@@ -12,7 +12,7 @@
 --   the turns of a link                       responder Turns; crew_work Served; responder Serving
 --   texts and statuses                        outside_traits Writing; journal_entry Texts; system_fold Numbered; command_ends Writing, Endings, Text; line_files Texts
 -- Taken on their tests: due_log (radio_receiver Due), leap_seconds (leap_file Rows), page_of (system_fold Page),
--- judge (poll_core Histories), reply_to (reply_core Replies).
+-- judge (poll_core Histories), reply_to (sealed_reply Replies).
 use Rattle.std.specs.Prelude.{◌≡◌, ◌≢◌, ◌⊎◌, ℕ, suc, ◌*◌, ◌<◌, ◌≤◌, min, nat_lt, Bool, Option, None, Some, IfSome, is_some, List, [], ◌∷◌, ◌++◌, All, length, slice_get, codes, decimal, if◌then◌else◌}
 use Rattle.std.specs.List.{flat_map, sum_by}
 use Rattle.std.specs.Option.{option_to_list}

@@ -3,7 +3,7 @@ use Rattle.std.proofs.Common.{◌≡◌, ◌∷◌, [], Ok, ap, refl, sym, ◌�
 use Rattle.outside_traits.specs.Faults.{RoseByOne}
 use Rattle.outside_traits.specs.States.NetEvent.{Timed, Went}
 use Rattle.outside_traits.proofs.StateLaws.{Adds-more}
-use Rattle.reply_core.specs.Replies.{reply_to}
+use Rattle.sealed_reply.specs.Replies.{reply_to}
 use Rattle.responder.specs.Desks.{desk_of}
 use Rattle.responder.specs.Steps.{with_sent}
 use Rattle.responder.specs.Turns.{Request, Reading}

@@ -1,7 +1,7 @@
 -- Scaffolding: the bytes of a reply as it is kept.
 use Rattle.std.specs.Prelude.{◌≡◌, ℕ, ◌==◌, List, length, if◌then◌else◌}
-use Rattle.reply_core.specs.declared.packet.Packet.{Packet}
-use Rattle.reply_core.specs.declared.packet.Packet.TheVariants.{Plain, Sealed}
+use Rattle.sealed_reply.specs.declared.reply.Packet.{Packet}
+use Rattle.sealed_reply.specs.declared.reply.Packet.TheVariants.{Plain, Sealed}
 
 abbrev pub bytes_of : Packet → List ℕ
 bytes_of (Plain bytes) = bytes

@@ -3,12 +3,13 @@ ghost use Rattle.std.specs.Prelude.{◌≡◌, ◌≤◌, ◌<◌, Ok, length, I
 ghost use Rattle.packet_auth.specs.Digests.{authentic, sealed_like};
 ghost use Rattle.packet_auth.specs.Keys.{keys_of};
 ghost use Rattle.reply_core.specs.Reply.{request_of};
-ghost use Rattle.reply_core.specs.Replies.{reply_to};
+ghost use Rattle.sealed_reply.specs.Replies.{reply_to};
 
-use crate::{Code, Dropped, Reply, read_request};
+use crate::Reply;
 use clock_page::Page;
 use ntp_packet::{HEADER_LENGTH, Header};
 use packet_auth::{KeyRing, SEALED_LENGTH};
+use reply_core::{Code, Dropped, read_request};
 use tick_units::Local;
 
 /// A header sealed as a datagram is: by the key by which the datagram is authentic, or not at all where it is not.

@@ -3,10 +3,10 @@ ghost use Rattle.std.specs.Prelude.{◌≡◌, ◌≤◌, ◌<◌, length};
 ghost use Rattle.ntp_packet.specs.Layout.{layout};
 ghost use Rattle.reply_core.specs.Reply.{header_for};
 
-use crate::{Code, write_reply};
 use clock_page::Page;
 use ntp_packet::{HEADER_LENGTH, Header};
 use packet_auth::SEALED_LENGTH;
+use reply_core::{Code, write_reply};
 use std::marker::Model;
 use tick_units::Local;
 
@@ -25,7 +25,7 @@ pub struct Reply {
 
 impl Model for Reply {
     ghost use Rattle.std.specs.Prelude.{List, ℕ};
-    ghost use Rattle.reply_core.specs.Packets.{IsPacket, bytes_of, packet_back, packet_of};
+    ghost use Rattle.sealed_reply.specs.Packets.{IsPacket, bytes_of, packet_back, packet_of};
 
     ghost Value = { List ℕ };
 
