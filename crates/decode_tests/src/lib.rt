@@ -15,11 +15,11 @@ mod frame_tests;
 #[cfg(test)]
 mod leap_tests;
 #[cfg(test)]
+mod maker_tests;
+#[cfg(test)]
 mod minute_pair_tests;
 #[cfg(test)]
 mod pulse_log_tests;
-#[cfg(test)]
-mod pulse_maker_tests;
 #[cfg(test)]
 mod radio_receiver_tests;
 #[cfg(test)]

@@ -25,15 +25,15 @@ use Rattle.tick_units.specs.declared.verdicts.Broken.{Broken}
 use Rattle.tick_units.specs.declared.verdicts.Coded.{Coded}
 use Rattle.tick_units.specs.declared.verdicts.Heard.{Heard}
 use Rattle.tick_units.specs.declared.verdicts.Kind.TheVariants.{Verdict, Differs}
-use Rattle.pulse_maker.specs.Made.{made, number_from, reductions_from, seeded, start_of, text_of}
-use Rattle.pulse_maker.specs.Minutes.{closing_symbols, coded_of, is_damaged, index_of, opening_index, opening_symbols, seconds_from, seconds_of, symbols_of}
-use Rattle.pulse_maker.specs.declared.seconds.Second.{Second}
-use Rattle.pulse_maker.proofs.MakingLaws.{minute_seconds}
+use Rattle.drill_day.specs.Made.{made, number_from, reductions_from, seeded, start_of, text_of}
+use Rattle.drill_day.specs.Minutes.{closing_symbols, coded_of, is_damaged, index_of, opening_index, opening_symbols, seconds_from, seconds_of, symbols_of}
+use Rattle.drill_day.specs.declared.seconds.Second.{Second}
+use Rattle.drill_day.proofs.MakingLaws.{minute_seconds}
 use Rattle.drill_day.specs.Orders.{NamesNoLeap, leap_in, leap_named}
 use Rattle.pulse_log.specs.Writing.{line_of}
 use Rattle.pulse_log.proofs.LineLaws.{long_line, says}
-use Rattle.pulse_maker.proofs.OrderLaws.{InOrder, made_in_order, made_is_read, made_rises}
-use Rattle.pulse_maker.proofs.ReadLaws.{Rises}
+use Rattle.drill_day.proofs.MadeOrderLaws.{InOrder, made_in_order, made_is_read, made_rises}
+use Rattle.drill_day.proofs.ReadLaws.{Rises}
 use Rattle.drill_day.specs.Day.{IsDay, day_due, day_log, first_minute, minutes_of_a_day}
 use Rattle.drill_day.proofs.CutLaws.{shape_of}
 use Rattle.drill_day.proofs.MarkLaws.{are_alone, end_if, mark_at, marks_from, marks_shown, ones_count, read_as}

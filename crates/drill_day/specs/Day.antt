@@ -8,7 +8,7 @@ use Rattle.tick_units.specs.declared.marks.Plan.TheVariants.{Dcf, Msf, Wwvb}
 use Rattle.journal_entry.specs.declared.entry.Entry.{Entry}
 use Rattle.drill_day.specs.Orders.{NamesNoLeap}
 use Rattle.radio_receiver.specs.Due.{due_log}
-use Rattle.pulse_maker.specs.Made.{made, text_of}
+use Rattle.drill_day.specs.Made.{made, text_of}
 
 -- 2026-03-01 00:00 UTC
 abbrev pub first_minute : ℕ

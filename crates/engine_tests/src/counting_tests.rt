@@ -9,7 +9,7 @@ use memory_outside::MemoryOutside;
 use outside_traits::Gate;
 use radio_engine::Status;
 use radio_receiver::{CountingReceiver, DcfReceiver, MsfReceiver, WwvbReceiver};
-use receiver_rack::put_in_rack;
+use station_gear::put_in_rack;
 use script_player::BoxedReceiver;
 use std::alloc::{AllocError, Global};
 use std::sync::Wait;

@@ -10,7 +10,7 @@ use memory_outside::MemoryOutside;
 use outside_traits::Gate;
 use radio_engine::Status;
 use radio_receiver::{DcfReceiver, MsfReceiver, Receiver, WwvbReceiver};
-use receiver_rack::put_in_rack;
+use station_gear::put_in_rack;
 use script_player::BoxedReceiver;
 use std::alloc::{AllocError, Global};
 use std::sync::atomic::{AtomicU64, Ordering};

@@ -12,10 +12,10 @@ ghost use Rattle.tick_units.specs.declared.marks.Plan.{Plan};
 use crate::keeping::{Post, Recorder};
 use crate::work::LogWork;
 use file_reader::{FileEnd, LogEnd, PieceTaker, read_pieces};
-use radio_receiver::{BoxedReceiver, LOG_LIMIT, LogDecoder, Receiver};
 use outside_traits::{Gate, Source};
 use page_cell::FeedPass;
 use pulse_log::Taken;
+use radio_receiver::{BoxedReceiver, LOG_LIMIT, LogDecoder, Receiver};
 use std::sync::Wait;
 use verdict_journal::{Hub, HubName};
 

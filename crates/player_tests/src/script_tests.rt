@@ -1,6 +1,6 @@
 // What lines give after the lines before them, and the page that is kept of them.
 ghost use Rattle.std.specs.Prelude.{◌≡◌, ◌≤◌, ◌^◌};
-ghost use Rattle.receiver_rack.specs.Racks.{IsRack};
+ghost use Rattle.station_gear.specs.Racks.{IsRack};
 ghost use Rattle.script_player.specs.KeptPlayer.{IsReady};
 
 use crate::shared::same;
@@ -8,7 +8,7 @@ use clock_page::Page;
 use journal_entry::LINE_ROOM;
 use memory_outside::{NOON, REQUEST_DIGITS};
 use radio_receiver::{DcfReceiver, MsfReceiver, Receiver, WwvbReceiver};
-use receiver_rack::put_in_rack;
+use station_gear::put_in_rack;
 use script_line::read_line;
 use script_player::{BoxedReceiver, Invalid, Outcome, Player, write_outcome};
 use station_reader::read_station;

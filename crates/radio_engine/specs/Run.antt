@@ -4,7 +4,7 @@ use Rattle.command_words.specs.Commands.{Asked, AskFor}
 use Rattle.command_words.specs.Commands.Asked.{decode, drill, migrate, replay, serve}
 use Rattle.outside_traits.specs.Faults.{Rose}
 use Rattle.outside_traits.specs.Openings.{OutsideState}
-use Rattle.crew_work.specs.declared.work.Orders.{Orders}
+use Rattle.feed_workers.specs.declared.crew.Orders.{Orders}
 use Rattle.file_commands.specs.Decoding.{RunsDecode, HasGoodLog}
 use Rattle.command_ends.specs.Effects.{Effect}
 use Rattle.station_report.specs.Drilling.{Drills}

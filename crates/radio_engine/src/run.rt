@@ -9,7 +9,7 @@ ghost use Rattle.command_ends.specs.Reports.{Reports, status_in};
 ghost use Rattle.command_ends.specs.Unopened.{Refuses, Lacks};
 ghost use Rattle.command_ends.specs.Writing.{Answers};
 ghost use Rattle.command_ends.specs.declared.ending.Ending.TheVariants.{NoMemory};
-ghost use Rattle.receiver_rack.specs.Racks.{IsRack};
+ghost use Rattle.station_gear.specs.Racks.{IsRack};
 
 use crate::drill::run_drill;
 use crate::serve::run_serve;

@@ -5,8 +5,8 @@ ghost use Rattle.command_ends.specs.Effects.{effect_of};
 ghost use Rattle.command_ends.specs.Reports.{Reports, status_in};
 ghost use Rattle.command_ends.specs.Unopened.{Lacks};
 ghost use Rattle.station_report.specs.Serving.{RunsServe};
-ghost use Rattle.receiver_rack.specs.Racks.{IsRack};
-ghost use Rattle.crew_work.specs.Served.{AreBlank};
+ghost use Rattle.station_gear.specs.Racks.{IsRack};
+ghost use Rattle.feed_workers.specs.Served.{AreBlank};
 ghost use Rattle.station_gear.specs.Gears.{IsEmptyFor};
 
 use command_ends::{
@@ -14,9 +14,8 @@ use command_ends::{
 };
 use outside_traits::{Outside, Sink};
 use radio_receiver::{BoxedReceiver, Receiver};
-use receiver_rack::fit_radios;
+use station_gear::{Gear, Missing, fit_radios, give_back_gear, open_gear};
 use station_crew::{Ended, Equipment, Orders, serve_station};
-use station_gear::{Gear, Missing, give_back_gear, open_gear};
 use station_report::{Done, finish_served, leap_feed};
 use station_values::Station;
 use std::alloc::{AllocError, Global};

@@ -20,7 +20,7 @@ use host_links::{HostOutside, StreamSink};
 use outside_traits::{Outside, Sink};
 use radio_engine::{Outcome, end_without_memory, run_to_outcome};
 use radio_receiver::{DcfReceiver, MsfReceiver, Receiver, WwvbReceiver};
-use receiver_rack::put_in_rack;
+use station_gear::put_in_rack;
 use service_links::{ServiceOutside, handed_over, write_reason};
 use standard_error::{Watched, write_beginning, write_report};
 use std::alloc::{AllocError, Global};

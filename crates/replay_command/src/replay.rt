@@ -9,7 +9,7 @@ ghost use Rattle.replay_command.specs.Replaying.{RunsReplay, replay_ending, scri
 ghost use Rattle.command_ends.specs.Reports.{Reports, status_in};
 ghost use Rattle.command_ends.specs.Unopened.{Lacks};
 ghost use Rattle.command_ends.specs.StationFile.{IsObstacle};
-ghost use Rattle.receiver_rack.specs.Racks.{IsRack};
+ghost use Rattle.station_gear.specs.Racks.{IsRack};
 ghost use Rattle.script_player.specs.KeptPlayer.{HasPlayed, IsReady};
 ghost use Rattle.script_player.specs.Replay.{case_of};
 ghost use Rattle.station_reader.specs.Faults.{Says};

@@ -8,7 +8,7 @@ use Rattle.tick_units.specs.declared.marks.Reduction.{Reduction}
 use Rattle.station_values.specs.Station.{StationFields}
 use Rattle.script_line.specs.declared.line.ScriptLine.{ScriptLine}
 use Rattle.script_player.specs.Replay.{after_swap, due, due_to, each_after, is_swap_of, pulse_in, pulses_of, reductions_of}
-use Rattle.receiver_rack.proofs.ListLaws.{reverse-push}
+use Rattle.station_gear.proofs.ListLaws.{reverse-push}
 use Rattle.script_player.proofs.ListLaws.{filter_map-none, filter_map-some}
 
 pub after_swap-other : (feed : ℕ) (lines : List ScriptLine) (line : ScriptLine) → is_swap_of feed line ≡ false → after_swap feed (lines ++ line ∷ []) ≡ after_swap feed lines ++ line ∷ []

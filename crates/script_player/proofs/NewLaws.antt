@@ -6,13 +6,13 @@ use Rattle.std.specs.List.{enumerate_from, slice_get}
 use Rattle.radio_receiver.specs.Histories.{History, with_delay}
 use Rattle.poll_core.specs.Polling.{HasPolled}
 use Rattle.station_values.specs.Station.{IsStation, RadioFields, ServerFields, StationFields, is_same_plan, plan_count}
-use Rattle.receiver_rack.specs.Racks.{AreFour, HasPicked, IsSpare, left_of}
+use Rattle.station_gear.specs.Racks.{AreFour, HasPicked, IsSpare, left_of}
 use Rattle.script_player.specs.KeptPlayer.{HasFitted, HasPolling, HasRadio, HasRadios, HasServer, first_radios, first_servers, with_radio}
-use Rattle.receiver_rack.specs.declared.rack.Spare.{Spare}
+use Rattle.station_gear.specs.declared.rack.Spare.{Spare}
 use Rattle.script_player.specs.declared.radio.Radio.{Radio}
 use Rattle.script_player.specs.declared.radios.Radios.{Radios}
 use Rattle.script_player.specs.declared.server.Server.{Server}
-use Rattle.receiver_rack.proofs.ListLaws.{count_by-push, count_by-take, take-slice_get}
+use Rattle.station_gear.proofs.ListLaws.{count_by-push, count_by-take, take-slice_get}
 use Rattle.station_values.proofs.PlanLaws.{same-plan}
 
 -- what stands at a place of a list with one item more

@@ -15,14 +15,14 @@ use Rattle.station_values.specs.Station.{RadioFields, StationFields}
 use Rattle.script_line.specs.declared.line.ScriptLine.{ScriptLine}
 use Rattle.script_line.specs.declared.line.ScriptLine.TheVariants.{Pulse, Swap}
 use Rattle.script_player.specs.Replay.{due_of_radio, entry_received, fitted, history_of, is_plan_of, is_swap_for, is_swap_of, may_receive, may_swap, pulse_in, pulses_of, radio_of}
-use Rattle.receiver_rack.specs.Racks.{HasPicked, IsSpare, left_of, one_of}
+use Rattle.station_gear.specs.Racks.{HasPicked, IsSpare, left_of, one_of}
 use Rattle.script_player.specs.KeptPlayer.{HasFitted, HasReceivedPulse, HasRadio, HasRadios}
-use Rattle.receiver_rack.specs.declared.rack.Spare.{Spare}
+use Rattle.station_gear.specs.declared.rack.Spare.{Spare}
 use Rattle.script_player.specs.declared.radio.Radio.{Radio}
 use Rattle.script_player.specs.declared.radios.Radios.{Radios}
 use Rattle.station_values.proofs.PlanLaws.{same-plan}
 use Rattle.script_player.proofs.LineLaws.{reductions-more, reductions-other, reductions-swap}
-use Rattle.receiver_rack.proofs.ListLaws.{count_by-push}
+use Rattle.station_gear.proofs.ListLaws.{count_by-push}
 use Rattle.script_player.proofs.ListLaws.{filter_map-none, filter_map-some, slice_get-later, slice_set-cases}
 
 -- the history of a radio whose receiver has heard these

@@ -7,7 +7,7 @@ use Rattle.radio_receiver.specs.Histories.{History, least_after}
 use Rattle.poll_core.specs.Polling.{HasPolled}
 use Rattle.system_fold.specs.Settings.{SettingsFields}
 use Rattle.system_fold.specs.KeptFold.{StandsForJournal}
-use Rattle.receiver_rack.specs.Racks.{IsSpare, left_of}
+use Rattle.station_gear.specs.Racks.{IsSpare, left_of}
 use Rattle.packet_auth.specs.Keys.{keys_of}
 use Rattle.station_values.specs.Station.{RadioFields, ServerFields, StationFields, leap_feed, settings_of}
 use Rattle.script_line.specs.declared.line.ScriptLine.{ScriptLine}

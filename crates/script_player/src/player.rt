@@ -52,7 +52,7 @@ pub struct Player<B: Drop> {
 }
 
 impl Player<BoxedReceiver> {
-    ghost use Rattle.receiver_rack.specs.Racks.{IsRack};
+    ghost use Rattle.station_gear.specs.Racks.{IsRack};
     ghost use Rattle.script_player.specs.KeptPlayer.{HasGiven, HasPlayed, IsReady, Plays};
 
     /// A station that has played no line yet, and that keeps at most this many entries, up to 4194304. It uses the first four

@@ -6,7 +6,7 @@ ghost use Rattle.radio_receiver.specs.Histories.{History, answers_of, with_delay
 
 use crate::BoxedReceiver;
 use radio_receiver::Receiver;
-use receiver_rack::fit;
+use station_gear::fit;
 use tick_units::{Heard, Plan, Reduction};
 
 // A radio of the station, with the receiver that it has now.

@@ -7,14 +7,14 @@ ghost use Rattle.script_line.specs.declared.line.ScriptLine.{ScriptLine};
 ghost use Rattle.script_line.specs.declared.line.ScriptLine.TheVariants.{Pulse, Swap};
 ghost use Rattle.script_player.specs.Replay as replay;
 ghost use Rattle.script_player.specs.Replay.{may_receive, may_swap, radio_of};
-ghost use Rattle.receiver_rack.specs.Racks.{IsRack, left_of};
+ghost use Rattle.station_gear.specs.Racks.{IsRack, left_of};
 ghost use Rattle.script_player.specs.KeptPlayer.{AreReady, Gives, HasReceivedPulse, HasRadios, with_radio};
 
 use crate::radio::Radio;
 use crate::{BoxedReceiver, Invalid};
 use journal_entry::{Entry, What};
 use radio_receiver::Receiver;
-use receiver_rack::{Spare, four_of_each, take_of};
+use station_gear::{Spare, four_of_each, take_of};
 use station_values::Station;
 use std::alloc::{AllocError, Global};
 use tick_units::{Heard, Plan, Reduction};

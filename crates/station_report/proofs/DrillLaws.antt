@@ -29,7 +29,7 @@ use Rattle.tick_units.specs.Log.{bad_at_end, pulses}
 use Rattle.tick_units.specs.declared.marks.Plan.TheVariants.{Dcf, Msf, Wwvb}
 use Rattle.tick_units.specs.declared.verdicts.Heard.{Heard}
 use Rattle.radio_receiver.specs.Histories.{answers_of}
-use Rattle.crew_work.specs.Served.{seen, sights_of}
+use Rattle.feed_workers.specs.Served.{seen, sights_of}
 use Rattle.station_report.specs.Crewing.{LeavesAll, causes_left}
 use Rattle.line_files.specs.GoodLogs.{IsGoodLog}
 use Rattle.station_report.specs.DrillScaffold.{FinishesDrill, HasDayGear, HasDrilled, feed_lines}
@@ -44,7 +44,7 @@ use Rattle.command_ends.specs.declared.ending.Ending.{Ending}
 use Rattle.command_ends.specs.declared.ending.Ending.TheVariants.{Full, Whole}
 use Rattle.command_ends.specs.declared.ending.status.Status.{Status}
 use Rattle.station_report.specs.declared.done.Done.{Done}
-use Rattle.crew_work.specs.declared.work.Orders.{Orders}
+use Rattle.feed_workers.specs.declared.crew.Orders.{Orders}
 use Rattle.station_report.proofs.GoodStationLaws.{good_logs}
 use Rattle.station_report.proofs.RunOfLaws.{LogsRun, polled-length}
 use Rattle.station_report.proofs.ServingLaws as serving

@@ -19,8 +19,8 @@ use Rattle.leap_file.proofs.GrowthLaws.{bad_whole_is, stays_bad}
 use Rattle.feed_workers.specs.Polling.{EndsPolls}
 use Rattle.file_reader.specs.declared.log_end.LogEnd.{LogEnd}
 use Rattle.file_reader.specs.declared.log_end.LogEnd.TheVariants as log
-use Rattle.feed_workers.specs.declared.work.PollEnd.{PollEnd}
-use Rattle.feed_workers.specs.declared.work.PollEnd.TheVariants as poll
+use Rattle.feed_workers.specs.declared.crew.PollEnd.{PollEnd}
+use Rattle.feed_workers.specs.declared.crew.PollEnd.TheVariants as poll
 use Rattle.file_reader.specs.Ends.{EndsReading}
 use Rattle.file_reader.specs.declared.reader.FileEnd.{FileEnd}
 use Rattle.file_reader.specs.declared.reader.FileEnd.TheVariants as file
@@ -31,12 +31,12 @@ use Rattle.station_reader.specs.Faults.{Fault, Says, IsFirst, faults_of, Refuses
 use Rattle.station_values.specs.Station.{RadioFields, ServerFields, StationFields, leap_feed}
 use Rattle.station_reader.specs.declared.fault.StationFault.{StationFault}
 use Rattle.station_reader.specs.declared.fault.StationFault.TheVariants as fault
-use Rattle.crew_work.specs.Lists.{Pairs}
-use Rattle.crew_work.proofs.ListLaws.{length-is-some}
+use Rattle.feed_workers.specs.Lists.{Pairs}
+use Rattle.feed_workers.proofs.ListLaws.{length-is-some}
 use Rattle.line_files.specs.GoodLogs.{IsGoodLog}
 use Rattle.command_ends.specs.Endings.{status_of}
 use Rattle.station_report.specs.Headline.{EndsPhases, IsAnswered, IsPolled, IsReported, LeapRun, LinkRun, LogRun, PollRun, StationRun, causes, due_in_all, dues, each_cause, full_cause, leap_dues, link_cause, log_cause, poll_cause, radio_dues, server_dues}
-use Rattle.crew_work.specs.declared.work.Orders.{Orders}
+use Rattle.feed_workers.specs.declared.crew.Orders.{Orders}
 use Rattle.station_report.specs.Serving.{EndsUnserved, HasGoodStation, IsGoodLeapRun, IsGoodLink, IsGoodList, IsGoodLogRun, RunsServe, ServesStation, back_in, opened_in}
 use Rattle.command_ends.specs.StationFile.{EndsAtStation, IsObstacle, IsStation, line_at, most_of_a_station, status_at}
 use Rattle.command_ends.specs.Effects.{Effect}

@@ -13,16 +13,16 @@ use Rattle.outside_traits.specs.Openings.{OutsideState, State, Visit, Wanted, lo
 use Rattle.outside_traits.specs.Openings.Wanted.{LogOf}
 use Rattle.outside_traits.specs.States.{LinkState, SinkState, SourceState}
 use Rattle.outside_traits.proofs.OpeningLaws.{GrowsBy-none}
-use Rattle.feed_workers.specs.declared.work.LogWork.{LogWork}
-use Rattle.feed_workers.specs.declared.work.PollWork.{PollWork}
+use Rattle.feed_workers.specs.declared.crew.LogWork.{LogWork}
+use Rattle.feed_workers.specs.declared.crew.PollWork.{PollWork}
 use Rattle.file_reader.specs.declared.reader.FileEnd.{FileEnd}
 use Rattle.file_reader.specs.declared.reader.FileEnd.TheVariants.{Whole}
 use Rattle.journal_entry.specs.declared.entry.Entry.{Entry}
 use Rattle.page_cell.specs.Claims.{of_feed}
 use Rattle.station_reader.specs.Faults.{Says}
 use Rattle.station_values.specs.Station.{ServerFields, StationFields, kind_of_radio, kind_of_server, leap_feed, leap_feeds, settings_of}
-use Rattle.crew_work.proofs.JournalLaws.{feeds-counted}
-use Rattle.crew_work.proofs.ListLaws.{leap_feeds-length, length-is-some}
+use Rattle.feed_workers.proofs.JournalLaws.{feeds-counted}
+use Rattle.feed_workers.proofs.ListLaws.{leap_feeds-length, length-is-some}
 use Rattle.station_gear.specs.Gears.{logs_needed, numbers_of, servers_needed, states_of, wanted_by}
 use Rattle.station_gear.specs.Opens.{HoldsOpenings, IsUpTo, IsWhole, OpensAll, StopsAt}
 use Rattle.station_gear.specs.declared.gear.Gear.{Gear}
@@ -30,7 +30,7 @@ use Rattle.station_gear.specs.declared.gear.Missing.{Missing}
 use Rattle.station_gear.specs.declared.gear.Missing.TheVariants as missing
 use Rattle.station_gear.proofs.GearLaws.{all_visited, gear_sizes, same_numbers, visited_before}
 use Rattle.system_fold.specs.Page.{page_of}
-use Rattle.crew_work.specs.Served.{seen, sights_of}
+use Rattle.feed_workers.specs.Served.{seen, sights_of}
 use Rattle.station_report.specs.Crewing.{CannotServe, FinishesDone, GivesServed, GivesUnused, HasEach, IsLeftOf, LeavesAll, ServesAll, TriesServe, any_full, causes_left, end_of, line_of_work, lines_left, subject_of}
 use Rattle.command_ends.specs.Effects.{effect_of}
 use Rattle.command_ends.specs.Endings.{status_of, status_line}
@@ -47,7 +47,7 @@ use Rattle.command_ends.specs.declared.ending.status.Status.{Status}
 use Rattle.command_ends.specs.declared.ending.subject.Subject.{Subject}
 use Rattle.command_ends.specs.declared.ending.subject.Subject.TheVariants.{Feed, Link}
 use Rattle.station_report.specs.declared.done.Done.{Done}
-use Rattle.crew_work.specs.declared.work.Orders.{Orders}
+use Rattle.feed_workers.specs.declared.crew.Orders.{Orders}
 use Rattle.command_ends.specs.declared.station_file.obstacle.Obstacle.{Obstacle}
 use Rattle.station_report.proofs.CountLaws.{HaveDue, beginnings, have_both, is_counted, is_lost, is_so, none_lost, wholes}
 use Rattle.station_report.proofs.RunOfLaws.{LeapsRun, LinksRun, LogsRun, PollsRun, leap_dues-length, leaps_run, links_run, logs_run, polled-length, polls_run, radio_dues-length}

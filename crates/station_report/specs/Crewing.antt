@@ -5,13 +5,13 @@ use Rattle.std.specs.Option.{option_to_list}
 use Rattle.outside_traits.specs.States.{SinkState}
 use Rattle.outside_traits.specs.Openings.{OutsideState, Visit, Wanted, MakesOpenings}
 use Rattle.outside_traits.specs.ManyOut.{GivesAllBack}
-use Rattle.feed_workers.specs.declared.work.LogWork.{LogWork}
-use Rattle.feed_workers.specs.declared.work.PollWork.{PollWork}
+use Rattle.feed_workers.specs.declared.crew.LogWork.{LogWork}
+use Rattle.feed_workers.specs.declared.crew.PollWork.{PollWork}
 use Rattle.responder.specs.declared.served.End.{End}
 use Rattle.responder.specs.declared.served.Served.{Served}
 use Rattle.station_values.specs.Station.{StationFields, leap_feed, settings_of}
-use Rattle.crew_work.specs.Served.{IsJournalOf, LeapServed, LinksServed, RadiosServed, ServersServed, Sights, column_of, service_of}
-use Rattle.crew_work.specs.declared.work.LinkWork.{LinkWork}
+use Rattle.feed_workers.specs.Served.{IsJournalOf, LeapServed, LinksServed, RadiosServed, ServersServed, Sights, column_of, service_of}
+use Rattle.feed_workers.specs.declared.crew.LinkWork.{LinkWork}
 use Rattle.station_gear.specs.Gears.{numbers_of, states_of, wanted_by}
 use Rattle.station_gear.specs.declared.gear.Gear.{Gear}
 use Rattle.station_gear.specs.declared.gear.Missing.{Missing}
@@ -30,7 +30,7 @@ use Rattle.command_ends.specs.declared.ending.status.Status.{Status}
 use Rattle.command_ends.specs.declared.ending.subject.Subject.{Subject}
 use Rattle.command_ends.specs.declared.ending.subject.Subject.TheVariants.{Feed, Link}
 use Rattle.station_report.specs.declared.done.Done.{Done}
-use Rattle.crew_work.specs.declared.work.Orders.{Orders}
+use Rattle.feed_workers.specs.declared.crew.Orders.{Orders}
 use Rattle.station_report.specs.declared.text.Totals.{Totals}
 
 -- ---- what is reported

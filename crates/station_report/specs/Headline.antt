@@ -8,8 +8,8 @@
 --   how far a file is read                    file_reader Ends; radio_receiver Decoding; feed_workers Logs, Leaps
 --   how a server is polled                    poll_core Histories; feed_workers Polls, Polling
 --   which client passes                       packet_auth Keys; kiss_gate Nets, Clients, Gates
---   a station, its journal and its page       system_fold Settings; station_values Station; page_cell Claims; crew_work Lists; clock_page Page
---   the turns of a link                       responder Turns; crew_work Served; responder Serving
+--   a station, its journal and its page       system_fold Settings; station_values Station; page_cell Claims; feed_workers Lists; clock_page Page
+--   the turns of a link                       responder Turns; feed_workers Served; responder Serving
 --   texts and statuses                        outside_traits Writing; journal_entry Texts; system_fold Numbered; command_ends Writing, Endings, Text; line_files Texts
 -- Taken on their tests: due_log (radio_receiver Due), leap_seconds (leap_file Rows), page_of (system_fold Page),
 -- judge (poll_core Histories), reply_to (sealed_reply Replies).
@@ -25,8 +25,8 @@ use Rattle.feed_workers.specs.Polling.{EndsPolls}
 use Rattle.feed_workers.specs.Polls.{due_link}
 use Rattle.file_reader.specs.declared.log_end.LogEnd.{LogEnd}
 use Rattle.file_reader.specs.declared.log_end.LogEnd.TheVariants as log
-use Rattle.feed_workers.specs.declared.work.PollEnd.{PollEnd}
-use Rattle.feed_workers.specs.declared.work.PollEnd.TheVariants as poll
+use Rattle.feed_workers.specs.declared.crew.PollEnd.{PollEnd}
+use Rattle.feed_workers.specs.declared.crew.PollEnd.TheVariants as poll
 use Rattle.journal_entry.specs.Texts.{spaced}
 use Rattle.journal_entry.specs.declared.entry.Entry.{Entry}
 use Rattle.kiss_gate.specs.Gates.{Gate}
@@ -37,9 +37,9 @@ use Rattle.responder.specs.Turns.{Turn, events_of, readings_of, AreTurns, GoesOn
 use Rattle.responder.specs.declared.served.End.{End}
 use Rattle.responder.specs.declared.served.End.TheVariants.{Count, LinkEnd, LinkFault}
 use Rattle.station_values.specs.Station.{RadioFields, ServerFields, StationFields, gate_of, leap_feed, settings_of}
-use Rattle.crew_work.specs.Lists.{Pairs}
-use Rattle.crew_work.specs.Served.{IsReadOf}
-use Rattle.crew_work.specs.declared.work.Orders.{Orders}
+use Rattle.feed_workers.specs.Lists.{Pairs}
+use Rattle.feed_workers.specs.Served.{IsReadOf}
+use Rattle.feed_workers.specs.declared.crew.Orders.{Orders}
 use Rattle.system_fold.specs.Page.{page_of}
 use Rattle.system_fold.specs.Settings.{IsJournal}
 use Rattle.command_ends.specs.Endings.{number_of, status_of, status_line}

@@ -12,7 +12,7 @@ use Rattle.feed_workers.specs.Leaps.{most_of_a_list}
 use Rattle.leap_file.specs.Rows.{bad_line}
 use Rattle.station_gear.specs.Gears.{wanted_by}
 use Rattle.line_files.specs.GoodLogs.{IsGoodLog}
-use Rattle.crew_work.specs.declared.work.Orders.{Orders}
+use Rattle.feed_workers.specs.declared.crew.Orders.{Orders}
 use Rattle.command_ends.specs.Effects.{Effect, EndsWith}
 use Rattle.command_ends.specs.Endings.{status_of, status_line}
 use Rattle.station_report.specs.Headline.{LeapRun, LogRun, StationRun, IsServed, due_in_all}

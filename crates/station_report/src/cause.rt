@@ -8,8 +8,7 @@ ghost use Rattle.command_ends.specs.declared.ending.Ending.{Ending};
 
 use crate::done::{Done, leap_feed};
 use command_ends::{Ending, Subject, status_by};
-use crew_work::LinkWork;
-use feed_workers::{LogEnd, LogWork, PollEnd, PollWork};
+use feed_workers::{LinkWork, LogEnd, LogWork, PollEnd, PollWork};
 use responder::End;
 use station_values::Station;
 

@@ -10,7 +10,7 @@ ghost use Rattle.outside_traits.specs.Writing.{WritesAll, WritesPrefix};
 use crate::cause::ending_of;
 use crate::done::Done;
 use command_ends::{Line, Report, finish_page};
-use crew_work::LinkWork;
+use feed_workers::LinkWork;
 use journal_entry::{LINE_ROOM, TextWriter};
 use line_files::write_numbered_line;
 use outside_traits::{Failed, Sink, write_all};

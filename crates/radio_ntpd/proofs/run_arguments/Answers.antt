@@ -7,8 +7,8 @@ use Rattle.radio_engine.specs.Run.{IsRun}
 use denote.Param.Object.{read_made}
 use Rattle.tick_units.specs.declared.marks.Plan.TheVariants.{Dcf, Msf, Wwvb}
 use Rattle.radio_receiver.specs.Histories.{History, blank_of}
-use Rattle.receiver_rack.specs.Made.{HasOfEach}
-use Rattle.receiver_rack.proofs.MadeLaws.{none_yet, rack_of, round}
+use Rattle.station_gear.specs.Made.{HasOfEach}
+use Rattle.station_gear.proofs.MadeLaws.{none_yet, rack_of, round}
 use Rattle.radio_ntpd.proofs.run_arguments.OwnLists.{own-1}
 use Rattle.radio_ntpd.proofs.run_arguments.Goals as goal
 

@@ -1,7 +1,7 @@
 -- What the search leaves open of `radios::Radios+BoxedReceiver::add`.
 use Rattle.std.proofs.Common.{◌≡◌, ◌∙◌, ◌++◌, ◌∷◌, [], Some, IfSome, refl, subst, sym, rules}
 use Rattle.radio_receiver.specs.Histories.{with_delay}
-use Rattle.receiver_rack.specs.Racks.{HasPicked}
+use Rattle.station_gear.specs.Racks.{HasPicked}
 use Rattle.script_player.proofs.NewLaws.{adds}
 use Rattle.script_player.proofs.radios.Radios+BoxedReceiver.add.Goals as goal
 

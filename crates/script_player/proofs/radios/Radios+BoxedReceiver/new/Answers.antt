@@ -5,9 +5,9 @@ use Rattle.std.specs.List.{slice_get}
 use Rattle.std.specs.Option.{option_map}
 use Rattle.station_values.specs.KeptStation.{radio_given}
 use Rattle.script_player.specs.KeptPlayer.{first_radios}
-use Rattle.receiver_rack.proofs.ListLaws.{some-at}
+use Rattle.station_gear.proofs.ListLaws.{some-at}
 use Rattle.script_player.proofs.NewLaws.{all-radios, goes-on, some-left, starts}
-use Rattle.receiver_rack.proofs.RackLaws.{All-at}
+use Rattle.station_gear.proofs.RackLaws.{All-at}
 use Rattle.script_player.proofs.radios.Radios+BoxedReceiver.new.Goals as goal
 
 pub loop-place-init : goal.loop-place-init

@@ -1,7 +1,7 @@
 -- What the search leaves open of `radios::Radios+BoxedReceiver::swap`.
 use Rattle.std.proofs.Common.{◌≡◌, length, refl, subst, ap, arith}
 use Rattle.std.proofs.lemmas.Option.{slice_get_read}
-use Rattle.receiver_rack.specs.Racks.{HasPicked}
+use Rattle.station_gear.specs.Racks.{HasPicked}
 use Rattle.script_player.proofs.RadioLaws.{swaps, swaps-not}
 use Rattle.script_player.proofs.radios.Radios+BoxedReceiver.swap.Goals as goal
 

@@ -5,7 +5,7 @@ use Rattle.std.specs.Option.{option_map}
 use Rattle.station_values.specs.KeptStation.{server_fields}
 use Rattle.poll_core.specs.Polling.{HasPolled}
 use Rattle.script_player.specs.KeptPlayer.{HasPolling, first_servers}
-use Rattle.receiver_rack.proofs.ListLaws.{some-at}
+use Rattle.station_gear.proofs.ListLaws.{some-at}
 use Rattle.script_player.proofs.NewLaws.{all-servers, polling-none, polling-push}
 use Rattle.script_player.proofs.servers.Servers.add_all.Goals as goal
 
