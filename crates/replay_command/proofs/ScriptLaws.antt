@@ -6,8 +6,8 @@ use Rattle.line_files.proofs.ItemLaws.{one_reading}
 use Rattle.line_files.specs.Items.{AreItems, HasItems, IsBad, IsFirstBad}
 use Rattle.script_line.proofs.LineLaws.{one_line, short_line}
 use Rattle.script_line.specs.declared.line.ScriptLine.{ScriptLine}
-use Rattle.script_player.proofs.ReplayLaws.{lines_push, may_be_kept}
-use Rattle.script_player.specs.Replay.{Played, is_full, lines_of, played_so}
+use Rattle.replay_command.proofs.ReplayLaws.{lines_push, may_be_kept}
+use Rattle.replay_command.specs.Replay.{Played, is_full, lines_of, played_so}
 use Rattle.station_values.specs.Station.{StationFields}
 use Rattle.tick_units.specs.Log.{lines_of as lines_of_bytes}
 use Rattle.replay_command.specs.Replaying.{replay_ending, script_of}

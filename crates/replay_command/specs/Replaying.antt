@@ -2,8 +2,8 @@
 use Rattle.std.specs.Prelude.{ℕ, ◌^◌, Bool, true, false, List}
 use Rattle.outside_traits.specs.Openings.{OutsideState}
 use Rattle.file_reader.specs.declared.reader.FileEnd.TheVariants.{Whole, Fault, TooLong}
-use Rattle.script_player.specs.Replay.{Played, is_full, lines_of, page_after}
-use Rattle.script_player.specs.Texts.{replay_text}
+use Rattle.replay_command.specs.Replay.{Played, is_full, lines_of, page_after}
+use Rattle.replay_command.specs.Texts.{replay_text}
 use Rattle.station_values.specs.Station.{StationFields}
 use Rattle.command_ends.specs.Effects.{Effect}
 use Rattle.command_ends.specs.Endings.{ending_at}

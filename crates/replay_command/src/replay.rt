@@ -10,13 +10,14 @@ ghost use Rattle.command_ends.specs.Reports.{Reports, status_in};
 ghost use Rattle.command_ends.specs.Unopened.{Lacks};
 ghost use Rattle.command_ends.specs.StationFile.{IsObstacle};
 ghost use Rattle.station_gear.specs.Racks.{IsRack};
-ghost use Rattle.script_player.specs.KeptPlayer.{HasPlayed, IsReady};
-ghost use Rattle.script_player.specs.Replay.{case_of};
+ghost use Rattle.replay_command.specs.KeptPlayer.{HasPlayed, IsReady};
+ghost use Rattle.replay_command.specs.Replay.{case_of};
 ghost use Rattle.station_reader.specs.Faults.{Says};
 ghost use Rattle.station_values.specs.Station.{StationFields};
 
 mod replayer;
 
+use crate::{BoxedReceiver, Player};
 use command_ends::{
     Ending, Known, Obstacle, Outcome, Report, STATION_LIMIT, Subject, finish, finish_at,
     finish_page, judge, open_station,
@@ -26,7 +27,6 @@ use line_files::{ending_at, read_lines};
 use outside_traits::{Failed, Outside, Sink, Source};
 use radio_receiver::Receiver;
 use replayer::Replayer;
-use script_player::{BoxedReceiver, Player};
 use std::alloc::{AllocError, Global};
 
 // The most bytes of a script.

@@ -1,6 +1,6 @@
 -- What the search leaves open of `replay::play_whole`.
 use Rattle.std.proofs.Common.{Bool, ap, ◌∙◌}
-use Rattle.script_player.specs.Replay.{case_of}
+use Rattle.replay_command.specs.Replay.{case_of}
 use Rattle.replay_command.specs.Playing.{script_taker, script_way}
 use Rattle.replay_command.specs.Replaying.{replay_ending, script_of}
 use Rattle.line_files.proofs.LineFileLaws.{runs_after, runs_stopped}
