@@ -26,7 +26,7 @@ use Rattle.system_fold.specs.Sources.{fit_sources, source_of}
 use Rattle.system_fold.specs.declared.leaps.Leap.{Leap}
 use Rattle.system_fold.specs.declared.leaps.Verdict.{Verdict}
 use Rattle.system_fold.specs.declared.leaps.Word.{Word}
-use Rattle.system_fold.specs.declared.leaps.Word.TheVariants.{Reported, Announced}
+use Rattle.system_fold.specs.declared.leaps.Word.TheVariants.{Verified, Announced}
 use Rattle.system_fold.specs.declared.settings.SourceKind.{SourceKind}
 use Rattle.system_fold.specs.declared.source.Source.{Source}
 use Rattle.drill_day.specs.Orders.{KeepsFeeds, NamesNoLeap, leap_named}
@@ -142,7 +142,7 @@ length-kept a b keeps =
 
 -- an entry that names no leap second has no word with one, whatever the last Verdict is
 no-leap-in : (last : Option Verdict) (at : ℕ) (what : What) → leap_named what ≡ 0 → leap_of last (word_in at what) ≡ None
-no-leap-in last at (Heard (Agreed second leap_at)) none = subst (λ n. leap_of last (Some (Reported at second n)) ≡ None) (sym none) refl
+no-leap-in last at (Heard (Agreed second leap_at)) none = subst (λ n. leap_of last (Some (Verified at second n)) ≡ None) (sym none) refl
 no-leap-in last at (Heard (Lone second)) none = refl
 no-leap-in last at (Heard (Differs before now apart)) none = refl
 no-leap-in last at (Heard (Refused rule)) none = refl

@@ -18,7 +18,7 @@ use Rattle.feed_workers.specs.Asking.{HasDone, Polled}
 use Rattle.feed_workers.specs.Keeping.{Keeps}
 use Rattle.feed_workers.specs.Polling.{RunsPolls, Session, session_at}
 use Rattle.feed_workers.specs.Polls.{Round, events_of, events_in, exchanges_of, history_of, entry_after, due_after, due_link, ends_round, is_hearing, GoOn, IsWhole, AreWhole, IsOpen, IsCut}
-use Rattle.feed_workers.specs.declared.crew.PollEnd.TheVariants.{Rounds, LinkEnd, LinkFault}
+use Rattle.feed_workers.specs.declared.work.PollEnd.TheVariants.{Rounds, LinkEnd, LinkFault}
 use Rattle.feed_workers.proofs.KeepLaws.{keeps_none}
 
 -- one event more at the end

@@ -12,7 +12,7 @@ use Rattle.outside_traits.specs.States.NetEvent.{Came, Silent, Ended, Timed, Wen
 use Rattle.outside_traits.specs.declared.outside.Address.{Address}
 use Rattle.feed_workers.specs.Polling.{EndsPolls}
 use Rattle.feed_workers.specs.Polls.{Round, events_of, events_in, asking, is_hearing, GoOn, IsWhole, AreWhole}
-use Rattle.feed_workers.specs.declared.crew.PollEnd.TheVariants.{Rounds}
+use Rattle.feed_workers.specs.declared.work.PollEnd.TheVariants.{Rounds}
 
 abbrev IsHearing : NetEvent → Type 0
 IsHearing event = is_hearing event ≡ true

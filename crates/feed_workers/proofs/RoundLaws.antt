@@ -26,7 +26,7 @@ use Rattle.feed_workers.specs.Polling.{RunsPolls, Session}
 use Rattle.feed_workers.specs.Polls.{Round, events_in, asking, history_of, what_of, entry_after, due_link, ends_round, is_hearing, is_ended, GoOn}
 use Rattle.feed_workers.specs.declared.poller.HearingEnd.TheVariants.{On, Over, Fault}
 use Rattle.feed_workers.specs.declared.poller.HearingEnd.TheVariants as how
-use Rattle.feed_workers.specs.declared.crew.PollEnd.TheVariants.{LinkEnd, LinkFault}
+use Rattle.feed_workers.specs.declared.work.PollEnd.TheVariants.{LinkEnd, LinkFault}
 use Rattle.feed_workers.proofs.PollLaws.{due_link-push, GoOn-push, done_more, done_kept, on_to, polled_more, ends_link, ends_cut}
 
 abbrev only : Entry → List Entry

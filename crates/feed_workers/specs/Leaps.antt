@@ -12,7 +12,7 @@ use Rattle.feed_workers.specs.Logs.{Intake, intake_of}
 use Rattle.feed_workers.specs.declared.leap.LeapWorker.{LeapWorker}
 use Rattle.file_reader.specs.declared.log_end.LogEnd.{LogEnd}
 use Rattle.file_reader.specs.declared.log_end.LogEnd.TheVariants.{Whole, BadLine, Fault, Long}
-use Rattle.feed_workers.specs.declared.crew.LogWork.{LogWork}
+use Rattle.feed_workers.specs.declared.work.LogWork.{LogWork}
 
 -- a leap second file has at most 2^16 bytes
 abbrev pub most_of_a_list : ℕ

@@ -12,7 +12,7 @@ use Rattle.feed_workers.specs.Keeping.{Keeps, Share, share_of}
 use Rattle.feed_workers.specs.declared.radio.WorkerOf.{WorkerOf}
 use Rattle.file_reader.specs.declared.log_end.LogEnd.{LogEnd}
 use Rattle.file_reader.specs.declared.log_end.LogEnd.TheVariants.{Whole, BadLine, Fault, Long}
-use Rattle.feed_workers.specs.declared.crew.LogWork.{LogWork}
+use Rattle.feed_workers.specs.declared.work.LogWork.{LogWork}
 
 -- These bytes were read of a log of at most this many, and the reading ended so. Whole: at the log's end, with no bad line and no
 -- unfinished one. BadLine: at the first bad line, which stands among the bytes or is the unfinished one at the log's end. Fault: a read

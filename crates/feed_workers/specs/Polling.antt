@@ -8,9 +8,9 @@ use Rattle.page_cell.specs.Passes.{claim_of}
 use Rattle.feed_workers.specs.Keeping.{Keeps, Share, share_of}
 use Rattle.feed_workers.specs.Polls.{Round, events_in, AreWhole, IsOpen, IsCut, due_link}
 use Rattle.feed_workers.specs.declared.poller.PollWorker.{PollWorker}
-use Rattle.feed_workers.specs.declared.crew.PollEnd.{PollEnd}
-use Rattle.feed_workers.specs.declared.crew.PollEnd.TheVariants.{Rounds, LinkEnd, LinkFault}
-use Rattle.feed_workers.specs.declared.crew.PollWork.{PollWork}
+use Rattle.feed_workers.specs.declared.work.PollEnd.{PollEnd}
+use Rattle.feed_workers.specs.declared.work.PollEnd.TheVariants.{Rounds, LinkEnd, LinkFault}
+use Rattle.feed_workers.specs.declared.work.PollWork.{PollWork}
 
 -- These events were those of this many polls, and they ended so. Rounds: as many whole rounds as polls, none of which received the link's
 -- end. LinkEnd: no more whole rounds than polls, of which the last one, and no other, received it. LinkFault: fewer whole rounds than polls,

@@ -7,8 +7,8 @@ use Rattle.feed_workers.specs.Logs.{EndsLog}
 use Rattle.radio_receiver.specs.Decoding.{most_of_a_log}
 use Rattle.feed_workers.specs.Polling.{EndsPolls}
 use Rattle.feed_workers.specs.Polls.{due_link}
-use Rattle.feed_workers.specs.declared.crew.LogWork.{LogWork}
-use Rattle.feed_workers.specs.declared.crew.PollWork.{PollWork}
+use Rattle.feed_workers.specs.declared.work.LogWork.{LogWork}
+use Rattle.feed_workers.specs.declared.work.PollWork.{PollWork}
 use Rattle.kiss_gate.specs.Gates.{Gate}
 use Rattle.packet_auth.specs.Keys.{KeyFields}
 use Rattle.journal_entry.specs.declared.entry.Entry.{Entry}

@@ -1,6 +1,6 @@
 -- The command `migrate`: it reads a journal of either form and writes it in the second form, with the numbers and rates that a
 -- station gives. All of it is this project's own.
-use Rattle.std.specs.Prelude.{◌≡◌, ℕ, ◌+◌, ◌<◌, ◌^◌, ◌==◌, List, [], ◌∷◌, length, map}
+use Rattle.std.specs.Prelude.{◌≡◌, ℕ, ◌+◌, ◌<◌, ◌^◌, ◌==◌, List, [], ◌∷◌, length, map, if◌then◌else◌}
 use Rattle.outside_traits.specs.Openings.{OutsideState}
 use Rattle.journal_entry.specs.Valid.{IsValid}
 use Rattle.journal_entry.specs.Lines.{IsLineText, entry_of, form_of}

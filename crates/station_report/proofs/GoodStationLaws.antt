@@ -19,8 +19,8 @@ use Rattle.leap_file.proofs.GrowthLaws.{bad_whole_is, stays_bad}
 use Rattle.feed_workers.specs.Polling.{EndsPolls}
 use Rattle.file_reader.specs.declared.log_end.LogEnd.{LogEnd}
 use Rattle.file_reader.specs.declared.log_end.LogEnd.TheVariants as log
-use Rattle.feed_workers.specs.declared.crew.PollEnd.{PollEnd}
-use Rattle.feed_workers.specs.declared.crew.PollEnd.TheVariants as poll
+use Rattle.feed_workers.specs.declared.work.PollEnd.{PollEnd}
+use Rattle.feed_workers.specs.declared.work.PollEnd.TheVariants as poll
 use Rattle.file_reader.specs.Ends.{EndsReading}
 use Rattle.file_reader.specs.declared.reader.FileEnd.{FileEnd}
 use Rattle.file_reader.specs.declared.reader.FileEnd.TheVariants as file

@@ -13,8 +13,8 @@ use Rattle.outside_traits.proofs.StateLaws.{Adds-more}
 use Rattle.feed_workers.specs.Leaps.{EndsLeap, most_of_a_list}
 use Rattle.feed_workers.specs.Logs.{EndsLog}
 use Rattle.radio_receiver.specs.Decoding.{most_of_a_log}
-use Rattle.feed_workers.specs.declared.crew.LogWork.{LogWork}
-use Rattle.feed_workers.specs.declared.crew.PollWork.{PollWork}
+use Rattle.feed_workers.specs.declared.work.LogWork.{LogWork}
+use Rattle.feed_workers.specs.declared.work.PollWork.{PollWork}
 use Rattle.journal_entry.specs.declared.entry.Entry.{Entry}
 use Rattle.radio_receiver.specs.Histories.{History}
 use Rattle.station_gear.specs.Racks.{AreOf, silent}

@@ -13,8 +13,8 @@ use Rattle.outside_traits.specs.Openings.{OutsideState, State, Visit, Wanted, lo
 use Rattle.outside_traits.specs.Openings.Wanted.{LogOf}
 use Rattle.outside_traits.specs.States.{LinkState, SinkState, SourceState}
 use Rattle.outside_traits.proofs.OpeningLaws.{GrowsBy-none}
-use Rattle.feed_workers.specs.declared.crew.LogWork.{LogWork}
-use Rattle.feed_workers.specs.declared.crew.PollWork.{PollWork}
+use Rattle.feed_workers.specs.declared.work.LogWork.{LogWork}
+use Rattle.feed_workers.specs.declared.work.PollWork.{PollWork}
 use Rattle.file_reader.specs.declared.reader.FileEnd.{FileEnd}
 use Rattle.file_reader.specs.declared.reader.FileEnd.TheVariants.{Whole}
 use Rattle.journal_entry.specs.declared.entry.Entry.{Entry}

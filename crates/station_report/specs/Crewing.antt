@@ -5,8 +5,8 @@ use Rattle.std.specs.Option.{option_to_list}
 use Rattle.outside_traits.specs.States.{SinkState}
 use Rattle.outside_traits.specs.Openings.{OutsideState, Visit, Wanted, MakesOpenings}
 use Rattle.outside_traits.specs.ManyOut.{GivesAllBack}
-use Rattle.feed_workers.specs.declared.crew.LogWork.{LogWork}
-use Rattle.feed_workers.specs.declared.crew.PollWork.{PollWork}
+use Rattle.feed_workers.specs.declared.work.LogWork.{LogWork}
+use Rattle.feed_workers.specs.declared.work.PollWork.{PollWork}
 use Rattle.responder.specs.declared.served.End.{End}
 use Rattle.responder.specs.declared.served.Served.{Served}
 use Rattle.station_values.specs.Station.{StationFields, leap_feed, settings_of}

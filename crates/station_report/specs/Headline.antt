@@ -25,8 +25,8 @@ use Rattle.feed_workers.specs.Polling.{EndsPolls}
 use Rattle.feed_workers.specs.Polls.{due_link}
 use Rattle.file_reader.specs.declared.log_end.LogEnd.{LogEnd}
 use Rattle.file_reader.specs.declared.log_end.LogEnd.TheVariants as log
-use Rattle.feed_workers.specs.declared.crew.PollEnd.{PollEnd}
-use Rattle.feed_workers.specs.declared.crew.PollEnd.TheVariants as poll
+use Rattle.feed_workers.specs.declared.work.PollEnd.{PollEnd}
+use Rattle.feed_workers.specs.declared.work.PollEnd.TheVariants as poll
 use Rattle.journal_entry.specs.Texts.{spaced}
 use Rattle.journal_entry.specs.declared.entry.Entry.{Entry}
 use Rattle.kiss_gate.specs.Gates.{Gate}

@@ -2,8 +2,8 @@
 use Rattle.std.proofs.Common.{◌≡◌, List, [], ◌++◌, ap, append_assoc, length, refl, sym, ◌∙◌, subst}
 use Rattle.std.specs.Prelude.{◌+◌, unwrap_or}
 use Rattle.std.specs.Option.{option_to_list}
-use Rattle.feed_workers.specs.declared.crew.LogWork.{LogWork}
-use Rattle.feed_workers.specs.declared.crew.PollWork.{PollWork}
+use Rattle.feed_workers.specs.declared.work.LogWork.{LogWork}
+use Rattle.feed_workers.specs.declared.work.PollWork.{PollWork}
 use Rattle.feed_workers.specs.declared.crew.LinkWork.{LinkWork}
 use Rattle.station_report.specs.Crewing.{any_full, causes_left, end_of}
 use Rattle.station_report.specs.Headline.{IsReported, each_cause, full_cause, link_cause, log_cause, poll_cause}

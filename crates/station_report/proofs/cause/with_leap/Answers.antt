@@ -2,7 +2,7 @@
 use Rattle.std.proofs.Common.{◌∙◌, ◌++◌, Option, sym, ap, subst}
 use Rattle.std.specs.Option.{option_to_list}
 use Rattle.std.proofs.lemmas.List.{append-nil}
-use Rattle.feed_workers.specs.declared.crew.LogWork.{LogWork}
+use Rattle.feed_workers.specs.declared.work.LogWork.{LogWork}
 use Rattle.station_report.specs.Crewing.{HasLeast}
 use Rattle.station_report.specs.Headline.{each_cause, log_cause}
 use Rattle.station_report.proofs.cause.with_leap.Goals as goal
