@@ -1,7 +1,7 @@
 //! Journals with and without a leap second.
 use crate::shared::same;
-use journal_entry::read_entry;
 use drill_day::names_no_leap;
+use journal_entry::read_entry;
 use std::alloc::Global;
 use std::process::Abort;
 

@@ -14,8 +14,8 @@ use command_ends::{
 };
 use outside_traits::{Outside, Sink};
 use radio_receiver::{BoxedReceiver, Receiver};
-use station_gear::{Gear, Missing, fit_radios, give_back_gear, open_gear};
 use station_crew::{Ended, Equipment, Orders, serve_station};
+use station_gear::{Gear, Missing, fit_radios, give_back_gear, open_gear};
 use station_report::{Done, finish_served, leap_feed};
 use station_values::Station;
 use std::alloc::{AllocError, Global};

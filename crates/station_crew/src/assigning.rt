@@ -16,7 +16,9 @@ ghost use Rattle.feed_workers.specs.Lists.{Pairs};
 
 use crate::crew::{Crew, Equipment, Passes};
 use crate::jobs::{LeapJob, PollJob, RadioJob, ServeJob};
-use feed_workers::{LeapWorker, LinkWork, LogEnd, LogWork, PollEnd, PollWork, PollWorker, RadioWorker};
+use feed_workers::{
+    LeapWorker, LinkWork, LogEnd, LogWork, PollEnd, PollWork, PollWorker, RadioWorker,
+};
 use kiss_gate::ClientGate;
 use outside_traits::{Link, Source};
 use page_cell::{FeedPass, ReadPass};
