@@ -1,4 +1,4 @@
--- Scaffolding: what a filter has ready of its samples.
+-- Scaffolding: what a filter computes of its samples in advance.
 use Rattle.std.specs.Prelude.{◌≡◌, ℕ, ◌≤◌, ◌^◌, nat_le, Option, List, IfSome, filter}
 use Rattle.clock_filter.specs.Figures.{figures_of}
 use Rattle.clock_filter.specs.declared.figures.Figures.{Figures}

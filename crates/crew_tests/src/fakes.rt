@@ -1,7 +1,7 @@
 //! Logs and links in memory, stated by constants.
 
 use feed_link::Address;
-use memory_outside::{MemoryLink, MemorySource, Planned};
+use memory_outside::{ANSWER, MemoryLink, MemorySource, NOON_0, Planned, REQUEST};
 use std::alloc::Global;
 use std::process::Abort;
 use tick_units::Local;
@@ -28,20 +28,6 @@ pub struct Wire<'a> {
     pub hears: &'a [Datagram<'a>],
     pub fails: u64,
 }
-
-// A request of version 4 with a poll of 64 s, sent at 0x1122334455667788 by the client's clock.
-const REQUEST: [u8; 48] = [
-    0x23, 0x00, 0x06, 0xec, 0x00, 0x00, 0x00, 0x00, 0x00, 0x00, 0x00, 0x00, 0x00, 0x00, 0x00, 0x00, // to the refid
-    0x00, 0x00, 0x00, 0x00, 0x00, 0x00, 0x00, 0x00, 0x00, 0x00, 0x00, 0x00, 0x00, 0x00, 0x00, 0x00, // to the origin
-    0x00, 0x00, 0x00, 0x00, 0x00, 0x00, 0x00, 0x00, 0x11, 0x22, 0x33, 0x44, 0x55, 0x66, 0x77, 0x88,
-];
-
-// The answer of a server of stratum 2 to the request of 1 s, received at 2026-01-01 12:05:05 UTC and answered half a millisecond later.
-const ANSWER: [u8; 48] = [
-    0x24, 0x02, 0x06, 0xec, 0x00, 0x00, 0x01, 0x00, 0x00, 0x00, 0x02, 0x00, 0x0a, 0x00, 0x00, 0x01, // to the refid
-    0x00, 0x00, 0x00, 0x00, 0x00, 0x00, 0x00, 0x00, 0x80, 0x00, 0x00, 0x01, 0x00, 0x00, 0x00, 0x00, // to the origin
-    0xed, 0x00, 0xe1, 0x31, 0x00, 0x00, 0x00, 0x00, 0xed, 0x00, 0xe1, 0x31, 0x00, 0x20, 0xc4, 0x9b,
-];
 
 /// The client's request, at 363 s.
 pub const ASKS: Datagram<'static> = Datagram {
@@ -131,9 +117,6 @@ pub fn source_of(alloc: Global, text: &str) -> MemorySource {
     MemorySource::new(bytes, Vec::new(alloc))
 }
 
-// The places that are One in the frame that announces 12:00 UTC.
-const NOON: [u32; 12] = [18, 20, 29, 30, 33, 35, 36, 44, 45, 51, 52, 55];
-
 // Whether the frame of a minute after 13:00, 0 to 7, has a one at a place: the minute's three bits stand at 21, 22 and 23, their parity at 28.
 fn is_one(minute: u32, place: u32) -> bool {
     match place {
@@ -141,7 +124,7 @@ fn is_one(minute: u32, place: u32) -> bool {
         22 => minute & 2 != 0,
         23 => minute & 4 != 0,
         28 => minute.count_ones() & 1 != 0,
-        _ => NOON.contains(&place),
+        _ => NOON_0.contains(&(place as usize)),
     }
 }
 

@@ -1,4 +1,4 @@
--- What a journal has of the entries that are due for a feed. All of it is this project's own.
+-- Which of the entries due for a feed a journal has: a prefix of them, and all unless it is full. All of it is this project's own.
 use Rattle.std.specs.Prelude.{◌≡◌, ℕ, ◌<◌, ◌≤◌, List, Bool, true, false, length, take}
 use Rattle.journal_entry.specs.declared.entry.Entry.{Entry}
 use Rattle.page_cell.specs.Claims.{of_feed}

@@ -97,7 +97,7 @@ pub record IsReadOf (settings : SettingsFields) (journal : List Entry) (reading 
   pub within : reading.length ≤ length journal
   pub page : reading.page ≡ page_of settings (take reading.length journal)
 
--- what was reported of a phase is what its turns come to
+-- the counts that were reported of a phase are those of its turns
 pub record CountsTurns (served : Served) (turns : List Turn) : Type 0 where
   pub answered : served.answered ≡ sum_by answered_of turns
   pub dropped : served.dropped ≡ sum_by dropped_of turns

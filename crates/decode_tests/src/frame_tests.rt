@@ -1,14 +1,15 @@
 //! The frames of the three plans, which read mark by mark, answer as the readers of slices do.
 ghost use Rattle.std.specs.Prelude.{◌≤◌, ◌<◌};
 
-use crate::shared::{MSF_A, NOON, WWVB_MARKERS, moment, same};
+use crate::shared::{MSF_A, WWVB_MARKERS, moment, same};
 use frame_rules::{CodePlan, Frame, Segment};
+use memory_outside::NOON_0;
 use std::process::Abort;
 use tick_units::{Broken, Coded, Local, Mark, Plan, Symbol};
 
 // Seventy symbols, of a valid minute and more: 1 January 2026, 13:00 CET, by PTB's table.
 fn dcf_symbol(place: usize) -> Symbol {
-    if NOON.contains(&place) {
+    if NOON_0.contains(&place) {
         Symbol::One
     } else {
         Symbol::Zero

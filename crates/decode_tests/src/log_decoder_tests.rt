@@ -3,9 +3,10 @@
 ghost use Rattle.std.specs.Prelude.{◌≡◌, ◌≤◌};
 ghost use Rattle.log_decoder.specs.Decoding.{IsReady};
 
-use crate::shared::{NOON, NOON_1, same};
+use crate::shared::same;
 use journal_entry::{ENTRY_ROOM, Entry, write_entry};
 use log_decoder::{LOG_LIMIT, LogDecoder};
+use memory_outside::{NOON_0, NOON_1};
 use pulse_log::{BadLine, Taken};
 use radio_receiver::{BoxedReceiver, DcfReceiver, Receiver};
 use std::alloc::Global;
@@ -28,7 +29,7 @@ fn add_frame(text: &mut String, ones: &[usize], start: u64) -> Result<(), Fail> 
 
 fn two_frames(alloc: Global) -> Result<String, Fail> {
     let mut text = String::from_str(alloc, "0 100000\n")?;
-    add_frame(&mut text, &NOON, 2_000_000)?;
+    add_frame(&mut text, &NOON_0, 2_000_000)?;
     add_frame(&mut text, &NOON_1, 62_000_000)?;
     text.push_str("122000000 100000\n")?;
     Ok(text)

@@ -1,8 +1,8 @@
 //! Tests of receivers: each plan, its path delay, its boundaries, and leap seconds.
 use crate::shared::{
-    NOON, NOON_1, dcf_minute, hears, last_answer, lone, moment, msf_minute, reduction, same,
-    wwvb_minute,
+    dcf_minute, hears, last_answer, lone, moment, msf_minute, reduction, same, wwvb_minute,
 };
+use memory_outside::{NOON_0, NOON_1};
 use radio_receiver::{BoxedReceiver, DcfReceiver, MsfReceiver, Receiver, WwvbReceiver};
 use std::alloc::{AllocError, Global};
 use std::process::Abort;
@@ -172,7 +172,7 @@ fn comes_to(rt: &impl Abort, alloc: Global, two: &Two, kind: Kind) -> Result<(),
 }
 
 const NOON_MINUTE: Places = Places {
-    ones: &NOON,
+    ones: &NOON_0,
     count: 59,
     spacing: 1_000_000,
 };

@@ -2,6 +2,7 @@
 //! log.
 ghost use Rattle.std.specs.Prelude.{◌≡◌, ◌≤◌};
 
+use memory_outside::NOON_0;
 use radio_receiver::{BoxedReceiver, Receiver};
 use std::fmt::Debug;
 use std::process::Abort;
@@ -11,11 +12,6 @@ use tick_units::{Heard, Kind, Local, Mark, Plan, Reduction, Symbol};
 pub fn same<T: PartialEq + Debug + Drop>(rt: &impl Abort, left: T, right: T) {
     assert_eq!(*rt; left, right);
 }
-
-// The places that are One in a frame of DCF77, by PTB's table: 1 January 2026, 13:00 CET and a minute later.
-pub const NOON: [usize; 12] = [18, 20, 29, 30, 33, 35, 36, 44, 45, 51, 52, 55];
-
-pub const NOON_1: [usize; 14] = [18, 20, 21, 28, 29, 30, 33, 35, 36, 44, 45, 51, 52, 55];
 
 // The places with bit A 1, and those with bit B 1 except for place 1, in a frame of MSF, by NPL's table: 1 January 2026, 12:00.
 pub const MSF_A: [usize; 14] = [19, 22, 23, 29, 35, 36, 40, 43, 53, 54, 55, 56, 57, 58];
@@ -54,7 +50,7 @@ fn start_of(place: usize) -> u64 {
 
 // The second of this place of a minute of DCF77.
 fn dcf_second(place: usize) -> Reduction {
-    let is_one = NOON.contains(&place);
+    let is_one = NOON_0.contains(&place);
     reduction(start_of(place), if is_one { 200_000 } else { 100_000 })
 }
 

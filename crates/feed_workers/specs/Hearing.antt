@@ -28,7 +28,7 @@ pub record HasMissed (tuning : Tuning) (share : Share) (bytes : List ℕ) (line 
   pub kept : Keeps share (due_log share.begun.number tuning.plan tuning.delay bytes)
   pub bad_is : bad_line bytes ≡ Some line
 
--- what came of the pieces of a log: they were heard to the end of the reading, or up to a bad line
+-- the result of a log's pieces: they were received to the end of the reading, or up to a bad line
 abbrev pub EndsHearing : {B : Type 0} → (B → History → Type 0) → LogDecoder B → Tuning → Intake → Result FileEnd ℕ → Type 0
 EndsHearing stands decoder tuning intake read =
     EndsPieces (λ bytes. HasHeard stands decoder tuning intake.share bytes None) (λ line bytes. HasMissed tuning intake.share bytes line)

@@ -1,4 +1,5 @@
--- What a feed's pass has of the entries that were due. All of it is this project's own.
+-- Which of the entries due for a feed stand in the journal: a prefix of them, and all where there was room. All of it is this
+-- project's own.
 use Rattle.std.specs.Prelude.{◌≡◌, ℕ, ◌<◌, ◌≤◌, List, ◌++◌, length, take, Bool, true, false}
 use Rattle.atomic_table.specs.Seated.{TableId}
 use Rattle.journal_entry.specs.declared.entry.Entry.{Entry}

@@ -28,7 +28,7 @@ abbrev pub NoticesByte : {A : Type 0} → LeapReader → ℕ → Share → List 
 NoticesByte reader start share bytes (Ok unit) = HasNoticed reader start share bytes
 NoticesByte reader start share bytes (Err bad) = HasPassed start share bytes bad.line
 
--- what came of the pieces of a file: they were taken to the end of the reading, or up to a bad line
+-- the result of a file's pieces: they were taken to the end of the reading, or up to a bad line
 abbrev pub EndsNoticing : LeapReader → ℕ → Intake → Result FileEnd ℕ → Type 0
 EndsNoticing reader start intake read =
     EndsPieces (HasNoticed reader start intake.share) (λ line bytes. HasPassed start intake.share bytes line) intake.most intake.begun intake.file read

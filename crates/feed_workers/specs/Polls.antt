@@ -46,7 +46,7 @@ abbrev pub due_after : ℕ → Address → List NetEvent → List NetEvent → L
 due_after feed server before [] = []
 due_after feed server before (event ∷ events) = entry_after feed server before event ++ due_after feed server (before ++ event ∷ []) events
 
--- one entry for each datagram that came, at its arrival: what it is by the requests and answers before it
+-- one entry for each datagram, at its arrival: the sample or the refusal that it gives, by the requests and answers before it
 abbrev pub due_link : ℕ → Address → List NetEvent → List Entry
 due_link feed server events = due_after feed server [] events
 

@@ -1,4 +1,5 @@
--- What it is to decode a log: what is opened, the bytes read, why the reading ended, and what is written.
+-- The command `decode`: what it opens, which bytes of the log it reads, why the reading ends, and what it writes. All of it is this
+-- project's own.
 use Rattle.std.specs.Prelude.{◌≡◌, ℕ, ◌⊎◌, ◌≤◌, IsSome, Some, None, List, [], ◌++◌, ◌∷◌, length, map}
 use Rattle.feed_link.specs.Faults.{Rose}
 use Rattle.feed_link.specs.Told.{SourceState, SinkState}
@@ -58,7 +59,7 @@ pub record OpensAndDecodes (plan : Plan) (name : List ℕ) (effect : Effect) : T
   pub opens : MakesOpenings (needed_by_decode name) effect.outside effect.outside_now (log_visit name opened back ∷ []) None
   pub decodes : Decodes plan opened back effect.out effect.out_now effect.status
 
--- what becomes of a command to decode a log
+-- the effects that `decode` may have
 abbrev pub RunsDecode : Plan → List ℕ → Effect → Type 0
 RunsDecode plan name effect = CannotOpen (needed_by_decode name) [] (LogOf name) (Feed 0) effect ⊎ OpensAndDecodes plan name effect
 

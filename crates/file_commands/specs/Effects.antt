@@ -1,4 +1,5 @@
--- What a command does: what it leaves of the outside and of its sink, and how it ends.
+-- The effect of a command: what the outside and the output reported before it and after it, and its status. All of it is this
+-- project's own.
 use Rattle.std.specs.Prelude.{List, ℕ}
 use Rattle.feed_link.specs.Told.{SinkState}
 use Rattle.feed_link.specs.Openings.{OutsideState}

@@ -1,4 +1,4 @@
--- Scaffolding: what private functions say of a single opening.
+-- Scaffolding: what private functions guarantee of one opening of a file.
 use Rattle.std.specs.Prelude.{ℕ, ◌⊎◌, None, Some, List, [], ◌∷◌, Result, MatchResult}
 use Rattle.feed_link.specs.Told.{SourceState}
 use Rattle.feed_link.specs.Openings.{OutsideState, MakesOpenings, log_visit}

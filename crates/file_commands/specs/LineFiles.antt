@@ -1,5 +1,5 @@
--- What it is to run through a file of lines against a station: what each line may say, what all of them give, and how it ends.
--- Also what is opened, the bytes read, why the reading ended, and what is written.
+-- The result of processing a file line by line, for a station: which files are opened, which bytes are read, what each line may
+-- say, which text the lines give, and the status. All of it is this project's own.
 use Rattle.std.specs.Prelude.{◌≡◌, ℕ, ◌⊎◌, ◌≤◌, false, IsSome, Option, Some, None, List, [], ◌∷◌, ◌++◌, length, map}
 use Rattle.clock_page.specs.Page.{PageFields}
 use Rattle.feed_link.specs.Faults.{Rose}
@@ -102,7 +102,7 @@ pub record OpensAndRuns (file_of : StationFields → LineFile) (name file_name :
   pub opens : MakesOpenings (needed_by name file_name) effect.outside effect.outside_now (log_visit name opened back ∷ log_visit file_name file_opened file_back ∷ []) None
   pub runs : RunsThrough (file_of of) file_opened file_back effect.out effect.out_now effect.status
 
--- what becomes of a command that runs through a file against a station
+-- the effects that a command may have which processes a file for a station
 abbrev pub RunsAgainst : Subject → (StationFields → LineFile) → List ℕ → List ℕ → Effect → Type 0
 RunsAgainst what file_of name file_name effect =
     CannotOpen (needed_by name file_name) [] (LogOf name) Station effect

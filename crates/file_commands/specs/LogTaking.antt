@@ -1,4 +1,4 @@
--- Scaffolding: what a decoder of a log stands for, with the text that it has given.
+-- Scaffolding: the bytes that a decoder of a log has taken, and the text that it has given for them.
 use Rattle.std.specs.Prelude.{◌≡◌, ℕ, Option, None, Some, Result, Ok, Err, List}
 use Rattle.tick_units.specs.Log.{bad_line}
 use Rattle.tick_units.specs.declared.marks.Plan.{Plan}

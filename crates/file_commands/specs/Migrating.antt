@@ -1,5 +1,5 @@
--- What it is to convert a journal: a file of lines of either form, which is read against a station and written in the second
--- form.
+-- The command `migrate`: it reads a journal of either form and writes it in the second form, with the numbers and rates that a
+-- station gives. All of it is this project's own.
 use Rattle.std.specs.Prelude.{◌≡◌, ℕ, ◌+◌, ◌<◌, ◌^◌, ◌==◌, List, [], ◌∷◌, ◌++◌, codes, length, map, if◌then◌else◌}
 use Rattle.std.specs.List.{flat_map}
 use Rattle.feed_link.specs.Openings.{OutsideState}
@@ -85,7 +85,7 @@ journal_of station = record {
   ending = λ end lines. migrate_ending end;
 }
 
--- what becomes of a command to convert a journal, and when all that it opens has no fault
+-- the effects that `migrate` may have, and when all that it opens has no fault
 abbrev pub RunsMigrate : List ℕ → List ℕ → Effect → Type 0
 RunsMigrate name journal_name = RunsAgainst Journal journal_of name journal_name
 

@@ -1,4 +1,4 @@
--- Scaffolding: what a mover of a journal's lines stands for.
+-- Scaffolding: the lines that a converter of journals has taken, and their entries.
 use Rattle.std.specs.Prelude.{◌≡◌, ℕ, Option, None, Some, List, [], ◌∷◌, ◌++◌, length, take, codes}
 use Rattle.clock_page.specs.Page.{PageFields}
 use Rattle.journal_entry.specs.Lines.{entry_of, form_of}

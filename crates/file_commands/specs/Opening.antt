@@ -1,4 +1,4 @@
--- An opening that a command needs, and that fails.
+-- A command that ends since a file or link could not be opened. All of it is this project's own.
 use Rattle.std.specs.Prelude.{Some, List}
 use Rattle.feed_link.specs.Openings.{Wanted, Visit, MakesOpenings}
 use Rattle.file_commands.specs.Effects.{Effect, EndsWith}

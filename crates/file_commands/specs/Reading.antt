@@ -1,4 +1,5 @@
--- What it is to read a file of lines: which bytes were read, and why the reading ended.
+-- Which bytes of a file of lines were read, and why the reading ended: at its end, at a fault, at the limit of bytes, or at a bad
+-- line. All of it is this project's own.
 use Rattle.std.specs.Prelude.{◌≡◌, ℕ, ◌⊎◌, Option, None, Some, List}
 use Rattle.feed_link.specs.Told.{SourceState, NoneLeft}
 use Rattle.file_reader.specs.Ends.{HasReadFront, EndsReading}

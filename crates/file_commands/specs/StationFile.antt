@@ -1,4 +1,5 @@
--- What it is to read a station file whole, and what may keep its station from being used.
+-- A station file that is read whole, and why its station can't be used: a fault of the file or of its text, or no memory. All of it
+-- is this project's own.
 use Rattle.std.specs.Prelude.{◌≡◌, ℕ, ◌⊎◌, ◌^◌, IsSome, Some, None, List, [], ◌∷◌, ◌++◌, codes, decimal}
 use Rattle.feed_link.specs.Told.{SourceState}
 use Rattle.feed_link.specs.Openings.{Wanted, MakesOpenings, log_visit}
@@ -53,7 +54,7 @@ line_at (Ends ending) = status_line ending
 line_at (Faulty fault) = station_line fault
 
 -- what keeps the station of a file from being used whose bytes were read so far: a read that failed, bytes past the limit, or a
--- fault of the text. Or there was not enough memory, which is free once the file was read
+-- fault of the text. Or there was not enough memory, which may be answered whenever the file was read
 abbrev pub IsObstacle : FileEnd → List ℕ → Obstacle → Type 0
 IsObstacle file.Fault bytes obstacle = obstacle ≡ Ends (NotRead Station)
 IsObstacle file.TooLong bytes obstacle = obstacle ≡ Ends (Long Station)

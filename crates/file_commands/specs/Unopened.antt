@@ -1,4 +1,4 @@
--- A command that ends before anything is opened.
+-- A command that ends before it opens anything: its arguments are wrong, or there is no memory. All of it is this project's own.
 use Rattle.std.specs.Prelude.{◌≡◌}
 use Rattle.file_commands.specs.Effects.{Effect, EndsWith}
 use Rattle.file_commands.specs.Endings.{status_of, status_line}

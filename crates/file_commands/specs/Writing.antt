@@ -1,4 +1,4 @@
--- What it is to end with a text.
+-- The result of writing a last text: the status that was due where all of it is written, else the status of a failed write.
 use Rattle.std.specs.Prelude.{◌≡◌, ℕ, ◌⊎◌, List}
 use Rattle.feed_link.specs.Told.{SinkState}
 use Rattle.file_commands.specs.declared.ending.status.Status.{Status}

@@ -1,4 +1,4 @@
--- Scaffolding: what came of the pieces of a file that were handed to a taker, which has taken them all or has stopped in one.
+-- Scaffolding: the state of a taker to which the pieces of a file were handed. It has taken them all, or has stopped in one.
 use Rattle.std.specs.Prelude.{ℕ, List, Result, Ok, Err}
 use Rattle.feed_link.specs.Told.{SourceState}
 use Rattle.file_reader.specs.Ends.{HasReadFront, EndsReading}

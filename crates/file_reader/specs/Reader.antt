@@ -1,4 +1,4 @@
--- What a reader of a file stands for: the bytes that it has read since the file's start.
+-- The state of a reader of a file, by the bytes that it has read since the file's start. All of it is this project's own.
 use Rattle.std.specs.Prelude.{◌≡◌, ◌+◌, ◌-◌, ℕ, List, ◌++◌, length, take}
 use Rattle.feed_link.specs.Told.{SourceState}
 use Rattle.file_reader.specs.Ends.{HasReadFront, EndsReading}

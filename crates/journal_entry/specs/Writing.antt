@@ -1,4 +1,4 @@
--- How a text grows in its room: what a writer of a text says of itself, and what each piece adds.
+-- Scaffolding, which contracts use: a text that is written piece by piece into a buffer, and the state of its writer.
 use Rattle.std.specs.Prelude.{◌≡◌, ℕ, ◌+◌, ◌≤◌, List, ◌++◌, length, take, drop}
 use Rattle.std.specs.Borrow.{GName}
 use Rattle.journal_entry.specs.Texts.{spaced}

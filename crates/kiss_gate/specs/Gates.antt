@@ -1,4 +1,4 @@
--- What a gate goes by, and the table of its clients: pairs of an address and a moment, the latest used first. How a server limits the
+-- The rules of a gate, and the table of its clients: pairs of an address and a moment, the latest used first. How a server limits the
 -- rate of its clients is left open by RFC 5905 (section 7.4); this is the project's own.
 use Rattle.std.specs.Prelude.{ℕ, List}
 use Rattle.kiss_gate.specs.declared.nets.Net.{Net}

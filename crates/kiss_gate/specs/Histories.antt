@@ -10,7 +10,7 @@ pub record Request : Type 0 where
   pub ip : ℕ
   pub at : ℕ
 
--- the gate that goes by the same rules and has judged these, where all were kept
+-- the gate with the same rules after it has judged these requests, where each client got its place in the table
 abbrev pub gate_after : Gate → List Request → Gate
 gate_after gate [] = with_table gate []
 gate_after gate (request ∷ older) = after (gate_after gate older) request.ip request.at true

@@ -41,7 +41,7 @@ pub(crate) fn judge_known(
         lru_cache (take clients.old.cap ((ip, at) ∷ remove_entry (nat_eq ip) clients.old.entries)) clients.old.cap }
     ensures unknown { result ≡ None → clients.new ≡ clients.old }
 {
-    // There is room for all pairs.
+    // For the prover: the table never exceeds its size.
     let _few = clients.len();
     match clients.get_mut(&ip) {
         Some(last) => Some(renew(last, gap, at)),

@@ -1,4 +1,4 @@
--- What a reader of a leap second file stands for: the bytes that it has taken. The form is that of `leap-seconds.list` of IERS
+-- The state of a reader of a leap second file, by the bytes that it has taken. The form is that of `leap-seconds.list` of IERS
 -- and NIST.
 use Rattle.std.specs.Prelude.{◌≡◌, ℕ, Bool, true, false, ◌-◌, ◌^◌, min, Option, None, Some, List, [], ◌∷◌, ◌++◌, length, Result, MatchResult, is_some, if◌then◌else◌}
 use Rattle.std.specs.List.{last_or}
@@ -18,7 +18,7 @@ abbrev pub EndsIn : (returned : Bool) → Part → List ℕ → Type 0
 EndsIn true part text = (front : List ℕ) × (text ≡ front ++ 13 ∷ []) × (part ≡ part_of front)
 EndsIn false part text = (strip_carriage_return text ≡ text) × (part ≡ part_of text)
 
--- what is kept of a line is how far it has come
+-- the parser's state within an unfinished line
 abbrev pub IsLine : Line → List ℕ → Type 0
 IsLine line text = EndsIn line.returned line.part text
 

@@ -1,4 +1,5 @@
--- What a decoder stands for: the bytes that it has taken, and the entries that they gave.
+-- The state of a decoder, by the bytes of the log that it has taken and the entries that they gave. All of it is this project's
+-- own.
 use Rattle.std.specs.Prelude.{◌≡◌, ◌≤◌, ◌^◌, ℕ, Option, None, Some, List, ◌++◌, Result, MatchResult}
 use Rattle.std.specs.Option.{option_to_list}
 use Rattle.tick_units.specs.Log.{pulses, bad_line}

@@ -72,8 +72,8 @@ impl<R: Receiver> LogDecoder<R> {
             let front = take result.count bytes.now in
             DecodesFront R.stands_for self.new (radio_log feed plan delay) before front result.found }
     {
-        // Each call that is not inlined stands in this function itself. What it writes is then set to zero once a call of `next_entry`.
-        // In a function that is inlined into the loop that happens at each line.
+        // Call functions that aren't inlined only from here: their result is then zeroed once a call of `next_entry`, and not once a
+        // line.
         let mut count = 0;
         'lines: while count < bytes.len() {
             let rest = bytes.split_at(count).1;

@@ -1,4 +1,4 @@
--- The calls of a fake: how many were made, and the numbers of those that fail, counted from 1.
+-- The calls of an object in memory (for tests and `drill`): how many were made, and the numbers of those that fail, counted from 1.
 use Rattle.std.specs.Prelude.{◌≡◌, ◌==◌, ◌+◌, ◌-◌, ◌^◌, ℕ, Bool, List, min}
 use Rattle.std.specs.List.{list_any}
 use Rattle.memory_links.specs.declared.calls.Calls.{Calls}

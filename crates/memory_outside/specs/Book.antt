@@ -1,4 +1,4 @@
--- The events that the rows of a book stand for: how a link in memory keeps what it reports.
+-- How a link in memory stores its events: rows of numbers, and the bytes of all datagrams in one list.
 use Rattle.std.specs.Prelude.{◌≡◌, ℕ, ◌+◌, ◌≤◌, Option, None, Some, Bool, List, [], ◌∷◌, ◌++◌, length, take, drop, map, if◌then◌else◌}
 use Rattle.std.specs.List.{sum_by}
 use Rattle.feed_link.specs.Told.{NetEvent, Adds}

@@ -1,4 +1,4 @@
--- What a link in memory gives out of its events, as events.
+-- The events of a link in memory, as it gives them to a test.
 use Rattle.feed_link.specs.Told.{NetEvent}
 use Rattle.feed_link.specs.Told.NetEvent.{Came, Silent, Ended, Timed, Went}
 use Rattle.memory_outside.specs.declared.event.LinkEvent.{LinkEvent}

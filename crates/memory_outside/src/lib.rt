@@ -7,6 +7,7 @@
 mod book;
 mod event;
 mod hold_gate;
+mod known;
 mod ledger;
 mod memory_link;
 mod memory_outside;
@@ -14,6 +15,7 @@ mod memory_source;
 
 pub use event::{LinkEvent, Planned};
 pub use hold_gate::HoldGate;
+pub use known::{ANSWER, ANSWER_DIGITS, NOON, NOON_0, NOON_1, REQUEST, REQUEST_DIGITS};
 pub use memory_link::MemoryLink;
 pub use memory_outside::{FakeOpen, MemoryOutside, NamedLog};
 pub use memory_source::MemorySource;

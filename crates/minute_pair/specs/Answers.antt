@@ -1,4 +1,4 @@
--- What each segment of a log comes to, by itself and by the one just before it. That two frames in a row have to agree is this
+-- The answer to each segment of a log, from itself and the one just before it. That two frames in a row have to agree is this
 -- project's own rule; the code plan defines what a frame says.
 use Rattle.std.specs.Prelude.{ℕ, ◌+◌, ◌-◌, ◌*◌, Bool, ◌&&◌, ◌||◌, ◌==◌, nat_le, Option, None, Some, Result, Ok, Err, List, [], ◌∷◌, if◌then◌else◌}
 use Rattle.minute_pair.specs.Segments.{Segment}
@@ -40,7 +40,7 @@ kind_of_both code before now was is = if is.minute == was.minute + 60 && are_tim
     then Verdict is.minute (agreed_leap was.leap_at is.leap_at)
     else Differs was.minute is.minute (apart_of before now)
 
--- a valid segment, by what the one before it comes to
+-- the answer to a valid segment, by the judgement of the one before it
 abbrev pub kind_of_valid : Code → Segment → Result Coded Broken → Segment → Coded → Kind
 kind_of_valid code before (Err broken) now is = Lone is.minute
 kind_of_valid code before (Ok was) now is = kind_of_both code before now was is

@@ -1,4 +1,4 @@
--- Scaffolding, which contracts use: what a pairing keeps of the marks that it has received, to cut them into segments.
+-- Scaffolding, which contracts use: the part of a pairing's state that cuts its marks into segments.
 use Rattle.std.specs.Prelude.{◌≡◌, nat_lt, None, List, [], ◌∷◌, ◌++◌, length}
 use Rattle.std.specs.List.{last_or}
 use Rattle.frame_rules.specs.Codes.{Code}

@@ -1,4 +1,4 @@
--- Scaffolding, which contracts use: what a pairing stands for, the marks that it has received; and the answer by what it keeps.
+-- Scaffolding, which contracts use: the state of a pairing, by the marks that it has received; and its answer, by its state.
 use Rattle.std.specs.Prelude.{◌≡◌, ℕ, ◌-◌, ◌&&◌, ◌||◌, ◌==◌, nat_le, Option, None, Some, Result, Ok, Err, List, if◌then◌else◌}
 use Rattle.std.specs.List.{last_or}
 use Rattle.frame_rules.specs.Codes.{Code}

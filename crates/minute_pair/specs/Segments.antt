@@ -1,4 +1,4 @@
--- The segments of a list of marks: the minutes that are cut out, by a code plan, at the marks that begin one.
+-- The segments of a list of marks: each runs from a mark that begins a minute, by the code plan, up to the next such mark.
 use Rattle.std.specs.Prelude.{ℕ, Option, None, Some, List, [], ◌∷◌, drop, if◌then◌else◌}
 use Rattle.std.specs.List.{onto_first}
 use Rattle.tick_units.specs.declared.marks.Mark.{Mark}

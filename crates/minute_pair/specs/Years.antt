@@ -1,4 +1,4 @@
--- That believed minutes lie in the supported years.
+-- The minutes that are believed lie in the supported years. The range is this project's own.
 use Rattle.tick_units.specs.Years.{HasYears}
 use Rattle.tick_units.specs.declared.verdicts.Kind.{Kind}
 use Rattle.tick_units.specs.declared.verdicts.Kind.TheVariants.{Verdict, Lone, Differs, Refused}

@@ -3,8 +3,9 @@ ghost use Rattle.std.specs.Prelude.{◌≢◌, ◌≤◌, ◌<◌, ◌^◌};
 ghost use Rattle.reply_core.specs.declared.code.Code.TheVariants.{Pass};
 
 use crate::reply_core_tests::{answered, beginning_with, of_a_fast_counter};
-use crate::shared::{DENY, REQUEST, is_packet, longer, moment, of_a_radio, same};
+use crate::shared::{DENY, is_packet, longer, moment, of_a_radio, same};
 use clock_page::Page;
+use memory_outside::REQUEST;
 use reply_core::{Code, Dropped, kiss};
 use std::process::Abort;
 

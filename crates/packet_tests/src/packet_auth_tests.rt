@@ -2,7 +2,8 @@
 ghost use Rattle.std.specs.Prelude.{◌≡◌, ◌≤◌, ◌∷◌, [], codes, IsTrue};
 ghost use Rattle.packet_auth.specs.Keys.{has_id, keys_of};
 
-use crate::shared::{self, BY_LONGWAVE, REQUEST, same};
+use crate::shared::{self, BY_LONGWAVE, same};
+use memory_outside::REQUEST;
 use packet_auth::{KeyRing, SEALED_LENGTH};
 use std::process::Abort;
 

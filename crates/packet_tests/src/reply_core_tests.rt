@@ -2,8 +2,9 @@
 ghost use Rattle.std.specs.Prelude.{◌≤◌, ◌<◌, ◌^◌};
 
 use crate::clock_page_tests::of_2026;
-use crate::shared::{ANSWER, REQUEST, is_packet, longer, moment, of_a_radio, same};
+use crate::shared::{ANSWER, is_packet, longer, moment, of_a_radio, same};
 use clock_page::Page;
+use memory_outside::REQUEST;
 use reply_core::{Dropped, reply};
 use std::process::Abort;
 use tick_units::{Short, Span, Stamp};

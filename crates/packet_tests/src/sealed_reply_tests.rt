@@ -2,7 +2,8 @@
 ghost use Rattle.std.specs.Prelude.{◌≡◌, ◌≤◌, ◌<◌, ◌^◌, ◌∷◌, [], codes};
 ghost use Rattle.packet_auth.specs.Keys.{keys_of};
 
-use crate::shared::{self, ANSWER, BY_LONGWAVE, DENY, REQUEST, moment, of_a_radio, same};
+use crate::shared::{self, ANSWER, BY_LONGWAVE, DENY, moment, of_a_radio, same};
+use memory_outside::REQUEST;
 use packet_auth::KeyRing;
 use reply_core::{Code, Dropped};
 use sealed_reply::{Reply, Request};

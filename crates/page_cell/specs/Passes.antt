@@ -1,4 +1,4 @@
--- The kinds of passes, and what each stands for. All of it is this project's own.
+-- The kinds of passes, and what each says of the published list. All of it is this project's own.
 use Rattle.std.specs.Prelude.{◌≡◌, ℕ, true, false, List, [], ◌∷◌, length}
 use Rattle.atomic_table.specs.Seated.{TableId}
 use Rattle.page_cell.specs.Views.{new_claim}

@@ -2,6 +2,7 @@
 use crate::script_tests::{gives, joined, noon};
 use crate::shared::same;
 use journal_entry::LINE_ROOM;
+use memory_outside::REQUEST_DIGITS;
 use packet_auth::KeyRing;
 use script_player::{Outcome, write_outcome};
 use sealed_reply::sealed_like;
@@ -13,9 +14,6 @@ const RADIO: &str = "[[radio]]\nplan = \"dcf\"\nlog = \"log\"\n";
 const ENTRIES: &str =
     "j2 1 0 0 62000000 lone 3976257600\nj2 2 0 0 122000000 verdict 3976257660 0\nj2 3 0 0 182000000 verdict 3976257720 0\nj2 4 0 0 242000000 verdict 3976257780 0\n\
 j2 5 0 0 302000000 verdict 3976257840 0\n";
-
-const REQUEST: &str =
-    "230006ec0000000000000000000000000000000000000000000000000000000000000000000000001122334455667788";
 
 // At a station of one radio whose file begins with this text, these requests give this text.
 fn are_answered(rt: &impl Abort, alloc: Global, more: &str, requests: &[&str], text: &str) {
@@ -34,13 +32,13 @@ fn a_client_that_asks_too_often(rt: HostRuntime) {
         "gap = 2000000\n",
         &[
             "request 0 303000000 303000500 ",
-            REQUEST,
+            REQUEST_DIGITS,
             "\n",
             "request 0 304000000 304000500 ",
-            REQUEST,
+            REQUEST_DIGITS,
             "\n",
             "request 0 305000000 305000500 ",
-            REQUEST,
+            REQUEST_DIGITS,
             "\n",
         ],
         "reply 240106ec000000000000f06744434600ed00e130000000001122334455667788ed00e13100000000ed00e1310020c49b\n\
@@ -59,13 +57,13 @@ fn a_table_of_one_client(rt: HostRuntime) {
         "gap = 2000000\nclients = 1\n",
         &[
             "request 0 303000000 303000000 ",
-            REQUEST,
+            REQUEST_DIGITS,
             "\n",
             "request 1 304000000 304000000 ",
-            REQUEST,
+            REQUEST_DIGITS,
             "\n",
             "request 0 304500000 304500000 ",
-            REQUEST,
+            REQUEST_DIGITS,
             "\n",
         ],
         "reply 240106ec000000000000f06744434600ed00e130000000001122334455667788ed00e13100000000ed00e13100000000\n\
@@ -83,10 +81,10 @@ fn a_denied_client(rt: HostRuntime) {
         "[[deny]]\nnet = \"127.0.0.2/32\"\n",
         &[
             "request 1 303000000 303000500 ",
-            REQUEST,
+            REQUEST_DIGITS,
             "\n",
             "request 0 303000000 303000500 ",
-            REQUEST,
+            REQUEST_DIGITS,
             "\n",
             "request 1 303000000 303000500 ",
             "00",
@@ -108,13 +106,13 @@ fn what_is_dropped_is_not_judged(rt: HostRuntime) {
         "gap = 2000000\nclients = 1\n",
         &[
             "request 0 303000000 303000500 ",
-            REQUEST,
+            REQUEST_DIGITS,
             "\n",
             "request 1 303000000 303000500 ",
             "00",
             "\n",
             "request 0 303000000 303000500 ",
-            REQUEST,
+            REQUEST_DIGITS,
             "\n",
         ],
         "reply 240106ec000000000000f06744434600ed00e130000000001122334455667788ed00e13100000000ed00e1310020c49b\n\
@@ -133,7 +131,7 @@ fn a_kiss_is_sealed_as_its_request_is(rt: HostRuntime) {
         "gap = 2000000\n[[key]]\nid = 1\nsecret = \"longwave\"\n",
         &[
             "request 0 303000000 303000500 ",
-            REQUEST,
+            REQUEST_DIGITS,
             "\n",
             "request 0 303000000 303000500 ",
             "230006ec0000000000000000000000000000000000000000000000000000000000000000000000001122334455667788\

@@ -36,15 +36,15 @@ fn a_leap_second_is_announced(rt: HostRuntime) {
 fn leap_seconds_are_of_their_own_feed(rt: HostRuntime) {
     let script =
         "leap 0 1 0\nleap 1 1 0\nleap 3 1 0\nleap 4294967295 1 0\nleap 2 1 3692217600\npulse 2 1 1\nask 2 1\nanswer 2 1 00\nswap 2\n";
-    let want = "1 is not lawful\n2 is not lawful\n3 is not lawful\n4 is not lawful\n\
-j2 1 0 2 1 notice 3692217600\n6 is not lawful\n7 is not lawful\n8 is not lawful\n9 is not lawful\n";
+    let want = "1 is not valid\n2 is not valid\n3 is not valid\n4 is not valid\n\
+j2 1 0 2 1 notice 3692217600\n6 is not valid\n7 is not valid\n8 is not valid\n9 is not valid\n";
     gives(&rt, rt.alloc(), ALL, script, want);
 }
 
 #[test]
 fn a_station_without_a_file_has_no_leap_seconds(rt: HostRuntime) {
     let script = "leap 0 1 0\nleap 1 1 0\nleap 2 1 0\nleap 3 1 0\n";
-    let want = "1 is not lawful\n2 is not lawful\n3 is not lawful\n4 is not lawful\n";
+    let want = "1 is not valid\n2 is not valid\n3 is not valid\n4 is not valid\n";
     gives(&rt, rt.alloc(), NO_FILE, script, want);
 }
 
@@ -54,8 +54,8 @@ fn moments_of_the_file_do_not_fall(rt: HostRuntime) {
     let script =
         "leap 2 5 3692217600\nleap 2 5 3644697600\nleap 2 4 3692217600\nanswer 1 3 00\nanswer 1 9 00\npulse 0 9000000 100000\nleap 2 6 0\nleap 2 5 0\nleap 2 8 1\nanswer 1 9 00\n";
     let want =
-        "j2 1 0 2 5 notice 3692217600\nj2 2 0 2 5 notice 3644697600\n3 is not lawful\nj2 3 0 1 3 declined 2\nj2 4 0 1 9 declined 2\n\
-j2 5 0 2 6 notice 0\n8 is not lawful\nj2 6 0 2 8 notice 1\nj2 7 0 1 9 declined 2\n";
+        "j2 1 0 2 5 notice 3692217600\nj2 2 0 2 5 notice 3644697600\n3 is not valid\nj2 3 0 1 3 declined 2\nj2 4 0 1 9 declined 2\n\
+j2 5 0 2 6 notice 0\n8 is not valid\nj2 6 0 2 8 notice 1\nj2 7 0 1 9 declined 2\n";
     gives(&rt, rt.alloc(), ALL, script, want);
 }
 
@@ -71,7 +71,7 @@ fn drops_leap_seconds(rt: &impl Abort, alloc: Global, limit: u16, want: &str, an
 // The file has announced a leap second also where it finds no room: its moment stays.
 #[test]
 fn a_full_journal_drops_leap_seconds(rt: HostRuntime) {
-    drops_leap_seconds(&rt, rt.alloc(), 0, "3 is not lawful\n", 0);
-    let want = "j2 1 0 1 10 notice 3644697600\n3 is not lawful\n";
+    drops_leap_seconds(&rt, rt.alloc(), 0, "3 is not valid\n", 0);
+    let want = "j2 1 0 1 10 notice 3644697600\n3 is not valid\n";
     drops_leap_seconds(&rt, rt.alloc(), 1, want, 10);
 }

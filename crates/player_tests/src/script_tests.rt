@@ -6,6 +6,7 @@ ghost use Rattle.script_player.specs.KeptPlayer.{IsReady};
 use crate::shared::same;
 use clock_page::Page;
 use journal_entry::LINE_ROOM;
+use memory_outside::{NOON, REQUEST_DIGITS};
 use radio_receiver::{DcfReceiver, MsfReceiver, Receiver, WwvbReceiver};
 use receiver_rack::put_in_rack;
 use script_line::read_line;
@@ -77,7 +78,7 @@ fn play_lines(
         match player.play(&line) {
             Ok(outcome) => write_line(&mut text, &outcome),
             Err(NotLawful) => {
-                let _ = write!(text, "{number} is not lawful\n");
+                let _ = write!(text, "{number} is not valid\n");
             }
         }
     }
@@ -165,7 +166,7 @@ fn a_swap_loses_what_was_heard_and_keeps_the_delay(rt: HostRuntime) {
 fn a_plan_has_four_receivers(rt: HostRuntime) {
     let station = [DCF, DCF, "[[radio]]\nplan = \"msf\"\nlog = \"log\"\n"];
     let script = "swap 0\nswap 1\nswap 0\nswap 2\nswap 2\nswap 2\nswap 2\nswap 1\n";
-    let want = "3 is not lawful\n7 is not lawful\n8 is not lawful\n";
+    let want = "3 is not valid\n7 is not valid\n8 is not valid\n";
     parts_give(&rt, rt.alloc(), &station, &[script], &[want]);
 }
 
@@ -173,7 +174,7 @@ fn a_plan_has_four_receivers(rt: HostRuntime) {
 fn pulses_of_a_feed_rise_over_swaps_too(rt: HostRuntime) {
     let script =
         "pulse 0 2000000 1\npulse 0 2000000 1\npulse 0 1999999 1\npulse 1 1000000 1\nswap 0\npulse 0 2000000 1\npulse 0 2000001 1\n";
-    let want = "2 is not lawful\n3 is not lawful\n6 is not lawful\n";
+    let want = "2 is not valid\n3 is not valid\n6 is not valid\n";
     parts_give(&rt, rt.alloc(), &[DCF, DCF], &[script], &[want]);
 }
 
@@ -207,9 +208,9 @@ const FALLING: [&str; 11] = [
 
 const OF_FALLING: [&str; 5] = [
     ASKED,
-    "2 is not lawful\n3 is not lawful\n",
+    "2 is not valid\n3 is not valid\n",
     SAMPLE,
-    "5 is not lawful\n6 is not lawful\nj2 2 0 0 1010000 declined 3\n",
+    "5 is not valid\n6 is not valid\nj2 2 0 0 1010000 declined 3\n",
     ASKED_AGAIN,
 ];
 
@@ -222,8 +223,8 @@ const OF_OTHER_FEEDS: &str =
     "pulse 1 1 1\npulse 2 1 1\nask 0 1\nask 2 1\nanswer 0 1 00\nanswer 2 1 00\nswap 1\nswap 2\npulse 4294967295 1 1\nask 4294967295 1\n";
 
 const NOT_LAWFUL: &str =
-    "1 is not lawful\n2 is not lawful\n3 is not lawful\n4 is not lawful\n5 is not lawful\n6 is not lawful\n7 is not lawful\n\
-8 is not lawful\n9 is not lawful\n10 is not lawful\n";
+    "1 is not valid\n2 is not valid\n3 is not valid\n4 is not valid\n5 is not valid\n6 is not valid\n7 is not valid\n\
+8 is not valid\n9 is not valid\n10 is not valid\n";
 
 // Feed 0 is a radio, feed 1 a server, and there is no other.
 #[test]
@@ -270,7 +271,7 @@ fn drops_what_is_due(
 
 const DECLINED: &str = "j2 2 0 0 2000000 declined 3\n";
 
-const FOURTH: &str = "4 is not lawful\n";
+const FOURTH: &str = "4 is not valid\n";
 
 // An entry that is dropped counts for its server all the same: the server's moment stays.
 #[test]
@@ -283,15 +284,6 @@ fn a_full_journal_drops_what_is_due(rt: HostRuntime) {
     let both = [ASKED, SAMPLE, DECLINED, FOURTH];
     drops_what_is_due(&rt, alloc, 2, &both, false, 2_000_000);
 }
-
-// The places that are One in frames of DCF77, computed from the calendar by PTB's table: 1 January 2026, 13:00 to 13:04.
-const NOON: [&[usize]; 5] = [
-    &[18, 20, 29, 30, 33, 35, 36, 44, 45, 51, 52, 55],
-    &[18, 20, 21, 28, 29, 30, 33, 35, 36, 44, 45, 51, 52, 55],
-    &[18, 20, 22, 28, 29, 30, 33, 35, 36, 44, 45, 51, 52, 55],
-    &[18, 20, 21, 22, 29, 30, 33, 35, 36, 44, 45, 51, 52, 55],
-    &[18, 20, 23, 28, 29, 30, 33, 35, 36, 44, 45, 51, 52, 55],
-];
 
 // The pulses of a frame.
 fn frame(script: &mut String, ones: &[usize], start: u64) {
@@ -333,17 +325,14 @@ reply e40006ec0000000000100000494e4954000000000000000011223344556677880000012e00
 j2 5 0 0 302000000 verdict 3976257840 0\n\
 reply 240106ec000000000000f06744434600ed00e130000000001122334455667788ed00e13100000000ed00e1310020c49b\n";
 
-const REQUEST: &str =
-    "230006ec0000000000000000000000000000000000000000000000000000000000000000000000001122334455667788";
-
 // The pulses of five minutes. One request comes before the pulse that closes the fifth frame, and one after it.
 fn requests_at_noon(alloc: Global) -> String {
     let mut script = String::new(alloc);
     minutes(&mut script, &NOON);
     let _ = script.push_str("request 0 302000000 302000000 ");
-    let _ = script.push_str(REQUEST);
+    let _ = script.push_str(REQUEST_DIGITS);
     let _ = script.push_str("\npulse 0 302000000 100000\nrequest 0 303000000 303000500 ");
-    let _ = script.push_str(REQUEST);
+    let _ = script.push_str(REQUEST_DIGITS);
     let _ = script.push_str("\n");
     script
 }
@@ -367,13 +356,13 @@ reply 240106ec000000000000f06744434600ed00e130000000001122334455667788ed00e13100
 
 const SEALED_REQUESTS: [&str; 9] = [
     "request 0 303000000 303000500 ",
-    REQUEST,
+    REQUEST_DIGITS,
     "00000001b408cf70f4de3798e713f31a2a885f12\n",
     "request 0 303000000 303000500 ",
-    REQUEST,
+    REQUEST_DIGITS,
     "00000001b408cf70f4de3798e713f31a2a885fed\n",
     "request 0 303000000 303000500 ",
-    REQUEST,
+    REQUEST_DIGITS,
     "00000002b408cf70f4de3798e713f31a2a885f12\n",
 ];
 

@@ -1,4 +1,4 @@
--- What a poller's datagrams come to over the whole history of its exchanges (RFC 5905, section 8).
+-- The sample or the refusal that each answer to a poller gives, by the whole history of its exchanges (RFC 5905, section 8).
 use Rattle.std.specs.Prelude.{ℕ, Option, None, Some, unwrap_or, Result, Ok, Err, List, [], ◌∷◌, fold}
 use Rattle.tick_units.specs.declared.sample.Sample.{Sample}
 use Rattle.tick_units.specs.declared.stamp.Stamp.{Stamp}
@@ -38,7 +38,7 @@ abbrev pub result_by : Option PollRefusal → Sample → Result Sample PollRefus
 result_by None sample = Ok sample
 result_by (Some refusal) sample = Err refusal
 
--- what a datagram comes to, by the outstanding request and the last accepted answer
+-- the result of a datagram, by the outstanding request and the last accepted answer
 abbrev pub judge_by : Address → Option ℕ → Option Stamp → ℕ → Address → List ℕ → Result Sample PollRefusal
 judge_by server asked accepted at from bytes =
     result_by (first_refusal (table server asked accepted from bytes)) (sample_of server (unwrap_or asked 0) at (fields bytes))
@@ -47,7 +47,7 @@ abbrev pub step_by : List ℕ → Result Sample PollRefusal → Step
 step_by bytes (Ok sample) = Accepted (fields bytes).transmit
 step_by bytes (Err refusal) = Refused
 
--- what an event comes to after these steps
+-- the result of an event after these steps
 abbrev pub step_of : Address → List Step → Event → Step
 step_of server before (Asked moment) = Request moment
 step_of server before (Answered at from bytes) = step_by bytes (judge_by server (outstanding_in before) (accepted_in before) at from bytes)
@@ -62,6 +62,6 @@ outstanding server history = outstanding_in (steps server history)
 abbrev pub last_accepted : Address → List Event → Option Stamp
 last_accepted server history = accepted_in (steps server history)
 
--- what a datagram comes to after a history: the refusal of the first row of the table that holds, else the sample
+-- the result of a datagram after a history: the refusal of the first row of the table that holds, else the sample
 abbrev pub judge : Address → List Event → ℕ → Address → List ℕ → Result Sample PollRefusal
 judge server history at from bytes = judge_by server (outstanding server history) (last_accepted server history) at from bytes

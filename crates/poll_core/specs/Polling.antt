@@ -1,4 +1,4 @@
--- What a poller stands for: its server, and the history of its requests and answers.
+-- The state of a poller, by its server and the history of its requests and answers (RFC 5905, section 8).
 use Rattle.std.specs.Prelude.{◌≡◌, ℕ, Option, List}
 use Rattle.feed_link.specs.declared.outside.Address.{Address}
 use Rattle.poll_core.specs.Histories.{Event, outstanding, last_accepted}

@@ -1,4 +1,4 @@
--- Scaffolding, which contracts use: what is kept of an unfinished line, and the text that it stands for. A line is its start in
+-- Scaffolding, which contracts use: the parser's state within an unfinished line, and the text of that line. A line is its start in
 -- decimal, one space and its width in decimal; the format is this project's own.
 use Rattle.std.specs.Prelude.{◌≡◌, ℕ, ◌==◌, None, List, [], ◌∷◌, ◌++◌, length, decimal, if◌then◌else◌}
 use Rattle.tick_units.specs.Log.{reduction_of}

@@ -1,4 +1,4 @@
--- What the reader of a log stands for: the bytes that it has taken. The format of a log is this project's own.
+-- The state of a reader of a log, by the bytes that it has taken. The format of a log is this project's own.
 use Rattle.std.specs.Prelude.{◌≡◌, ℕ, ◌+◌, Option, None, Some, List, [], ◌∷◌, ◌++◌, length, Result, MatchResult}
 use Rattle.std.specs.Option.{option_to_list}
 use Rattle.tick_units.specs.Log.{lines_of, pulses, bad_line}

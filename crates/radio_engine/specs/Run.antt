@@ -1,4 +1,4 @@
--- What the program does: each command that arguments may ask for, what becomes of it, and when nothing has a fault.
+-- The one call of the program: which command its arguments ask for, the effect of that command, and when its status is 0.
 use Rattle.std.specs.Prelude.{◌≡◌, ℕ, ◌≤◌, ◌⊎◌, List}
 use Rattle.command_words.specs.Commands.{Asked, AskFor}
 use Rattle.command_words.specs.Commands.Asked.{decode, drill, migrate, replay, serve}
@@ -19,7 +19,7 @@ use Rattle.file_commands.specs.declared.ending.status.Status.TheVariants.{Done, 
 abbrev pub orders_of : (during after limit : ℕ) → Orders
 orders_of during after limit = record { limit = limit; budget = record { during = during; after = after } }
 
--- what becomes of a command, once there is enough memory for it
+-- the effects that a command may have, once there is enough memory for it
 abbrev pub Runs : Asked → Effect → Type 0
 Runs (decode plan log) effect = RunsDecode plan log effect
 Runs (replay station script limit) effect = RunsReplay station script limit effect

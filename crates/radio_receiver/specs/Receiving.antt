@@ -1,4 +1,4 @@
--- Scaffolding, which contracts use: what the receiver of a code plan stands for, all that it has received.
+-- Scaffolding, which contracts use: the state of a code plan's receiver, by all reductions that it has received.
 use Rattle.std.specs.Prelude.{◌≡◌}
 use Rattle.tick_units.specs.declared.marks.Plan.{Plan}
 use Rattle.frame_rules.specs.Codes.{Code}

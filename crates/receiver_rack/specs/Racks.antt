@@ -1,4 +1,4 @@
--- What a rack of receivers is, which of them a station keeps, and which are left. All of it is this project's own.
+-- A rack of receivers: those that a station's radios have, and those that are left as spares. All of it is this project's own.
 use Rattle.std.specs.Prelude.{◌≡◌, ℕ, ◌+◌, ◌≤◌, ◌&&◌, Bool, true, Some, List, [], ◌∷◌, All, map, if◌then◌else◌}
 use Rattle.std.specs.List.{count_by, slice_get}
 use Rattle.tick_units.specs.declared.marks.Plan.{Plan}
@@ -55,7 +55,7 @@ pub record AreFour {B : Type 0} (stands : B → History → Type 0) (spares : Li
   pub blank : All (IsSpare stands) spares
   pub four : (plan : Plan) → left_of plan spares ≡ 4
 
--- this many receivers of a rack were looked at, and these kept; the others are still to come
+-- this many receivers of a rack were examined, and these kept; the others are still to be examined
 pub record HasSorted {B : Type 0} (stands : B → History → Type 0) (spares : List (Spare B)) (rest : List B) : Type 0 where
   pub histories : List History
   pub are : AreOf stands rest histories
@@ -63,7 +63,7 @@ pub record HasSorted {B : Type 0} (stands : B → History → Type 0) (spares : 
   pub most : (plan : Plan) → left_of plan spares ≤ 4
   pub enough : (plan : Plan) → 4 ≤ left_of plan spares + count_by (is_blank_of plan) histories
 
--- what the receiver of a radio stands for that has received nothing
+-- the history of a radio's receiver before its first reduction
 abbrev pub silent : RadioFields → History
 silent radio = record { plan = radio.plan; delay = radio.delay; reductions = [] }
 

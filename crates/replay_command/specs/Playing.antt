@@ -1,4 +1,4 @@
--- Scaffolding: what a player of a script's bytes stands for.
+-- Scaffolding: the bytes of a script that were played, and the text that was given for them.
 use Rattle.std.specs.Prelude.{◌≡◌, ℕ, Option, Result, Ok, Err, List, [], ◌∷◌, ◌++◌, take}
 use Rattle.radio_receiver.specs.Histories.{History}
 use Rattle.script_player.specs.Replay.{Played, ReplayCase, outcome}

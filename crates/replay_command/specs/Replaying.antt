@@ -1,4 +1,4 @@
--- What it is to replay a script: a file of lines of scripts, which is played against a station.
+-- The command `replay`: it plays the lines of a script, one after another, on a station. All of it is this project's own.
 use Rattle.std.specs.Prelude.{ℕ, ◌^◌, Bool, true, false, List}
 use Rattle.feed_link.specs.Openings.{OutsideState}
 use Rattle.file_reader.specs.declared.reader.FileEnd.TheVariants.{Whole, Fault, TooLong}
@@ -36,7 +36,7 @@ script_of limit station = record {
   ending = λ end played. replay_ending end (is_full station limit (lines_of played)) limit;
 }
 
--- what becomes of a command to replay, and when all that it opens has no fault
+-- the effects that `replay` may have, and when all that it opens has no fault
 abbrev pub RunsReplay : List ℕ → List ℕ → ℕ → Effect → Type 0
 RunsReplay name script_name limit = RunsAgainst Script (script_of limit) name script_name
 

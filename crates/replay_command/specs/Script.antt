@@ -10,7 +10,7 @@ use Rattle.station_config.specs.Station.{StationFields}
 abbrev pub says_line : StationFields → Saying ScriptLine
 says_line station before text line = IsTextOf text line × (is_lawful station before line ≡ true)
 
--- the same of a line that was played: whether the sender of a request could be kept is free where the gate takes memory for it
+-- the same of a line that was played: where the gate takes memory for the sender of a request, either outcome may be answered
 abbrev pub says_played : StationFields → Saying Played
 says_played station before text played = says_line station (lines_of before) text played.line × MayBePlayed station before played
 

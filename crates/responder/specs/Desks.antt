@@ -1,4 +1,5 @@
--- A responder as its clients see it. All of it is this project's own.
+-- What decides a responder's answers: its keys, its gate of clients, its link and what its pass has seen. All of it is this project's
+-- own.
 use Rattle.std.specs.Prelude.{◌≡◌, ℕ, List}
 use Rattle.feed_link.specs.Told.{LinkState}
 use Rattle.kiss_gate.specs.Gates.{Gate}

@@ -233,7 +233,7 @@ abbrev pub MayKeep : Gate → ScriptLine → Bool → Type 0
 MayKeep gate (Request connection arrived sent datagram) was_kept = MayKeepSender (request_of datagram) gate (sender_of connection) arrived was_kept
 MayKeep gate _ was_kept = was_kept ≡ true
 
--- a line may be played in this way after these lines; where both ways are open, the host's memory decides
+-- the outcomes that a line may have after these lines: one, or two where an allocation for a new client may fail
 abbrev pub MayBePlayed : StationFields → List Played → Played → Type 0
 MayBePlayed station before played = MayKeep (gate_after station before) played.line played.kept
 

@@ -1,5 +1,5 @@
--- Scaffolding, which contracts use: what a marker holds back of the reductions that it has received, where a second may have two.
--- They are those of the unfinished mark.
+-- Scaffolding, which contracts use: the reductions of the unfinished mark, which a marker holds back where a second may have two
+-- (MSF).
 use Rattle.std.specs.Prelude.{Option, None, Some, List, [], ◌∷◌, if◌then◌else◌}
 use Rattle.tick_units.specs.declared.marks.Mark.{Mark}
 use Rattle.tick_units.specs.declared.marks.Reduction.{Reduction}

@@ -1,4 +1,4 @@
--- Scaffolding, which contracts use: what a marker stands for, the reductions that it has received.
+-- Scaffolding, which contracts use: the state of a marker, by the reductions that it has received.
 use Rattle.std.specs.Prelude.{◌≡◌, true, List}
 use Rattle.tick_units.specs.declared.marks.Plan.{Plan}
 use Rattle.tick_units.specs.declared.marks.Reduction.{Reduction}

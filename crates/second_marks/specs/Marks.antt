@@ -1,4 +1,4 @@
--- The marks of a list of reductions, by a code plan.
+-- The second marks that a list of reductions gives, by a code plan (PTB on DCF77, NPL on MSF, NIST SP 432 on WWVB).
 use Rattle.std.specs.Prelude.{List, [], ◌∷◌, map, if◌then◌else◌}
 use Rattle.tick_units.specs.declared.marks.Mark.{Mark}
 use Rattle.tick_units.specs.declared.marks.Plan.{Plan}

@@ -1,4 +1,5 @@
--- What a supervisor's words ask of a run. A number is in decimal, without leading zeros.
+-- The words of `RADIO_NTPD_SERVICE`, by which a supervisor says how a run begins, ends and asks. A number is in decimal, without
+-- leading zeros. All of it is this project's own.
 use Rattle.std.specs.Prelude.{◌≡◌, ◌≢◌, ◌==◌, ◌||◌, ◌≤◌, ℕ, Bool, true, false, Option, None, Some, List, [], ◌∷◌, ◌++◌, codes, decimal, take, drop, length, if◌then◌else◌}
 use Rattle.std.specs.List.{list_any, slice_split}
 use Rattle.service_links.specs.declared.word.Word.{Word}

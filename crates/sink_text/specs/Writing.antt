@@ -1,4 +1,5 @@
--- What writing a text to a sink means. A write may take a part of what it is given, or fail.
+-- A text that is written to a sink: all of it, or a prefix and then a fault. One write may take a part of what it is given, as Rust's
+-- `Write` has it.
 use Rattle.std.specs.Prelude.{◌≡◌, ℕ, List, ◌++◌}
 use Rattle.feed_link.specs.Faults.{RoseByOne}
 use Rattle.feed_link.specs.Told.{SinkState, Adds}

@@ -20,7 +20,7 @@ use Rattle.station_crew.specs.declared.jobs.RadioJob.{RadioJob}
 use Rattle.station_crew.specs.declared.jobs.ServeJob.{ServeJob}
 use Rattle.tick_units.specs.declared.marks.Plan.{Plan}
 
--- a radio's worker that decodes the log of its pass's feed, and has decoded nothing yet: what its receiver stands for is what it begins with
+-- a radio's worker that decodes the log of its pass's feed and has decoded nothing yet; its receiver's history is that of the start
 pub record IsManned {L X : Type 0} {F : X → Type 0} (stands : Boxed X F → History → Type 0) (least : Boxed X F → ℕ) (receiver : Boxed X F) (j : RadioJob L X F) : Type 0 where
   pub ready : IsReady least j.worker.decoder
   pub feed : feed_of j.worker.decoder ≡ (claim_of j.worker.pass.view).number

@@ -1,5 +1,5 @@
--- The gear of a station: the logs and links that it needs, in their order, and what the open ones are seen as. A leap second file
--- is a log.
+-- The gear of a station: the logs and links that it needs, in their order, and the states that they report while open. A leap
+-- second file is a log. All of it is this project's own.
 use Rattle.std.specs.Prelude.{◌≡◌, ◌≤◌, ℕ, None, List, [], ◌++◌, length, map, vec_capacity}
 use Rattle.std.specs.Option.{option_to_list}
 use Rattle.feed_link.specs.Told.{SourceState, LinkState}

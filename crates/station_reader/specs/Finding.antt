@@ -1,4 +1,4 @@
--- What the clauses of the search for the first fault, and of the reading, cite.
+-- Scaffolding: the terms in which private functions say which fault is first, and what was read.
 use Rattle.std.specs.Prelude.{◌≡◌, ⊤, ℕ, false, List, [], ◌∷◌, ◌++◌, map, Option, Some, None, slice_get, codes, decimal}
 use Rattle.toml.specs.Data.{Data, Items, Members, item, no_items}
 use Rattle.station_reader.specs.Faults.{Count as Limit, Fault, bad_in, bad_range, is_bad, is_missing, key_in, missing_in, missing_key, too_many, unknown_in, unknown_key}

@@ -138,7 +138,7 @@ pub record HasEach (of : StationFields) (done : Done) : Type 0 where
   pub of_servers : length done.work.servers.items ≡ length of.servers
   pub of_links : length done.work.links.items ≡ length of.links
 
--- what was left is what a run of the station comes to
+-- what the workers gave back is the result of a run of the station
 pub record IsLeftOf (of : StationFields) (limit : ℕ) (run : StationRun) (done : Done) : Type 0 where
   pub settings_are : done.journal.settings ≡ settings_of of
   pub entries_are : done.journal.entries ≡ run.journal

@@ -1,5 +1,5 @@
--- What becomes of a command to serve a station: what is opened and given back, what keeps a station from being served, and when nothing
--- has a fault.
+-- The command `serve`: which files and links it opens and gives back, why a station can't be served, and when nothing has a fault. All
+-- of it is this project's own.
 use Rattle.std.specs.Prelude.{◌≡◌, ◌⊎◌, ℕ, ◌+◌, ◌-◌, ◌≤◌, nat_lt, true, Option, None, Some, IfSome, IsSome, is_some, List, [], ◌∷◌, ◌++◌, All, length, map, if◌then◌else◌}
 use Rattle.std.specs.Option.{option_to_list}
 use Rattle.feed_link.specs.Faults.{Rose}
@@ -76,7 +76,7 @@ pub record ServesStation (name : List ℕ) (orders : Orders) (effect : Effect) :
   pub back_are : map (λ visit. visit.back) visits ≡ back_in run
   pub served : IsServed of orders run effect.out effect.out_now effect.status
 
--- what becomes of a command to serve a station
+-- the effects that `serve` may have
 abbrev pub RunsServe : List ℕ → Orders → Effect → Type 0
 RunsServe name orders effect = CannotOpen (LogOf name ∷ []) [] (LogOf name) Station effect
     ⊎ (EndsAtStation (LogOf name ∷ []) name effect ⊎ (EndsUnserved name effect ⊎ ServesStation name orders effect))

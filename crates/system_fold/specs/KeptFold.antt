@@ -29,7 +29,7 @@ pub record KeepsLeaps (s : Leaps) (journal : List Entry) : Type 0 where
 abbrev pub blank : SourceKind → Feed
 blank kind = record { kind = kind; filter = [] }
 
--- of each feed, by number, what it is and its last eight samples
+-- each feed by its number: its kind, and its last eight samples
 abbrev pub feeds_of : SettingsFields → List Entry → List Feed
 feeds_of settings journal = map (λ k. record { kind = k.1; filter = last_eight (samples_of k.1 k.0 journal) }) (enumerate_from 0 settings.sources)
 

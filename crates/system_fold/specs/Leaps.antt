@@ -18,7 +18,7 @@ use Rattle.system_fold.specs.declared.leaps.Verdict.{Verdict}
 use Rattle.system_fold.specs.declared.leaps.Word.{Word}
 use Rattle.system_fold.specs.declared.leaps.Word.TheVariants.{Told, Announced}
 
--- a Verdict and a Notice are words, no other entry is
+-- the announcement that an entry makes: only a Verdict and a Notice announce leap seconds
 abbrev pub word_in : ℕ → What → Option Word
 word_in at (Heard (Agreed second leap_at)) = Some (Told at second leap_at)
 word_in at (Heard (Refused rule)) = None

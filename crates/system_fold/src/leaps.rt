@@ -47,7 +47,7 @@ pub struct Leaps {
     pub words: Words,
 }
 
-// The word that an entry is, if it is one.
+// The announcement that an entry makes, if it makes one.
 pub fn word_said(at: Local, what: &What) -> Option<Word>
     ensures { result ≡ word_in at what.now }
 {
@@ -62,7 +62,7 @@ pub fn word_said(at: Local, what: &What) -> Option<Word>
     }
 }
 
-// The verdict that an entry is, if it is one: its moment and its second since 1900.
+// An entry's verdict, if it is one: its moment and its second since 1900.
 pub fn verdict_said(at: Local, what: &What) -> Option<Verdict>
     ensures { result ≡ verdict_in at what.now }
 {
@@ -87,7 +87,7 @@ fn leap_from(at: Local, second: u64, leap_at: u64) -> Leap
     }
 }
 
-// The leap second that a word names.
+// The leap second announced, if there is one.
 fn leap_named(verdict: &Option<Verdict>, word: &Option<Word>) -> Option<Leap>
     ensures { result ≡ leap_of verdict.now word.now }
 {

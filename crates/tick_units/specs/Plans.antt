@@ -1,4 +1,4 @@
--- What stands for a code plan: its name, which is this project's own, and its reference ID (RFC 5905, section 7.3).
+-- The two names of a code plan: its keyword, which is this project's own, and its reference ID (RFC 5905, section 7.3).
 use Rattle.std.specs.Prelude.{ℕ, Option, List, [], ◌∷◌, find, codes}
 use Rattle.std.specs.Str.{bytes_eq}
 use Rattle.tick_units.specs.declared.marks.Plan.{Plan}

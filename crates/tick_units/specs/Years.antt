@@ -1,4 +1,4 @@
--- The supported years; a second in them counts as told. Seconds count from 1900-01-01 00:00 UTC without leap seconds, as era 0 of
+-- The supported years, and the absolute seconds in them. Seconds count from 1900-01-01 00:00 UTC without leap seconds, as era 0 of
 -- RFC 5905 (section 6) does. Two-digit years are 2000 to 2099 in all three code plans, and a clock is at most two hours ahead of
 -- UTC. One day before these years and two days after them are added as room.
 use Rattle.std.specs.Prelude.{◌≢◌, ℕ, ◌<◌, ◌≤◌}

@@ -1,4 +1,4 @@
-//! The supported years; a second in them counts as told.
+//! The supported years, and the absolute seconds in them.
 ghost use Rattle.std.specs.Prelude.{◌<◌, ◌≤◌, IsTrue};
 ghost use Rattle.std.specs.Prelude.{◌↔◌};
 ghost use Rattle.tick_units.specs.Years.{first_told, end_of_told};

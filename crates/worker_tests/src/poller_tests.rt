@@ -10,7 +10,7 @@ use crate::shared::{
 };
 use feed_link::{Address, Link, OpenGate};
 use feed_workers::{PollEnd, PollWork, PollWorker};
-use memory_outside::{MemoryLink, Planned};
+use memory_outside::{ANSWER, MemoryLink, Planned};
 use page_cell::{CellParts, FeedPass, PageCell};
 use std::alloc::Global;
 use std::marker::Brand;
@@ -25,14 +25,6 @@ const SERVER: Address = Address {
     ip: 0x7f00_0001,
     port: 123,
 };
-
-// The answer of a server of stratum 2 to the request of 1 s, received at 2026-01-01 12:05:05 UTC and answered half a millisecond
-// later.
-const ANSWER: [u8; 48] = [
-    0x24, 0x02, 0x06, 0xec, 0x00, 0x00, 0x01, 0x00, 0x00, 0x00, 0x02, 0x00, 0x0a, 0x00, 0x00, 0x01, // to the refid
-    0x00, 0x00, 0x00, 0x00, 0x00, 0x00, 0x00, 0x00, 0x80, 0x00, 0x00, 0x01, 0x00, 0x00, 0x00, 0x00, // to the origin
-    0xed, 0x00, 0xe1, 0x31, 0x00, 0x00, 0x00, 0x00, 0xed, 0x00, 0xe1, 0x31, 0x00, 0x20, 0xc4, 0x9b,
-];
 
 const SAMPLE: &str = "0 1010000 sample 17077897383243199545 40802189 8837 2 7f000001 256 512\n";
 

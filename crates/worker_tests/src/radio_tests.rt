@@ -6,7 +6,7 @@ ghost use Rattle.page_cell.specs.Passes.{claim_of};
 use crate::shared::{Work, alone, has_lines, run_alone, same};
 use feed_link::{OpenGate, Source};
 use feed_workers::{LogEnd, LogWork, RadioWorker};
-use memory_outside::MemorySource;
+use memory_outside::{MemorySource, NOON_0, NOON_1};
 use page_cell::FeedPass;
 use radio_receiver::{DcfReceiver, Receiver};
 use std::alloc::Global;
@@ -15,10 +15,6 @@ use std::sync::Wait;
 use system_fold::SourceKind;
 use tick_units::Plan;
 use verdict_journal::{Hub, HubName};
-
-const NOON: [usize; 12] = [18, 20, 29, 30, 33, 35, 36, 44, 45, 51, 52, 55];
-
-const NOON_1: [usize; 14] = [18, 20, 21, 28, 29, 30, 33, 35, 36, 44, 45, 51, 52, 55];
 
 const LONE: &str = "0 62000000 lone 3976257600\n";
 
@@ -80,7 +76,7 @@ fn add_frame(text: &mut String, ones: &[usize], start: u64) {
 fn two_frames(alloc: Global, end: &str) -> String {
     let mut text = String::new(alloc);
     let _ = text.push_str("0 100000\n");
-    add_frame(&mut text, &NOON, 2_000_000);
+    add_frame(&mut text, &NOON_0, 2_000_000);
     add_frame(&mut text, &NOON_1, 62_000_000);
     let _ = text.push_str(end);
     text
@@ -178,7 +174,7 @@ fn a_full_journal_keeps_a_front_and_the_log_is_read_on(rt: HostRuntime) {
 // Three minutes and a bad line.
 fn three_frames(alloc: Global) -> String {
     let mut log = two_frames(alloc, "");
-    add_frame(&mut log, &NOON, 122_000_000);
+    add_frame(&mut log, &NOON_0, 122_000_000);
     let _ = log.push_str("x\n");
     log
 }

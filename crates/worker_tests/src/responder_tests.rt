@@ -1,8 +1,8 @@
 //! A responder over links in memory, and one on the loopback beside a client's thread.
-use crate::serving::{CLIENT, NONE, REQUEST, bytes_of, link_of, open_to_all, serve as serve_with};
+use crate::serving::{CLIENT, NONE, bytes_of, link_of, open_to_all, serve as serve_with};
 use crate::shared::{address_of, alone, host_link, loopback_socket, moment, same};
 use feed_link::Link;
-use memory_outside::{LinkEvent, MemoryLink, Planned};
+use memory_outside::{LinkEvent, MemoryLink, Planned, REQUEST};
 use packet_auth::KeyRing;
 use responder::{End, Served};
 use std::alloc::Global;

@@ -5,7 +5,7 @@ ghost use Rattle.std.specs.Prelude.{◌≡◌};
 use crate::shared::{alone, without_sources};
 use feed_link::{Address, Link, OpenGate};
 use kiss_gate::{ClientGate, DenyList, GateOpen};
-use memory_outside::{MemoryLink, Planned};
+use memory_outside::{MemoryLink, Planned, REQUEST};
 use packet_auth::KeyRing;
 use page_cell::{PageCell, ReadPass};
 use responder::{End, Responder, Served};
@@ -17,13 +17,6 @@ pub const CLIENT: Address = Address {
     ip: 0x7f00_0001,
     port: 5000,
 };
-
-/// A request of version 4 with a poll of 64 s, sent at 0x1122334455667788 by the client's clock.
-pub const REQUEST: [u8; 48] = [
-    0x23, 0x00, 0x06, 0xec, 0x00, 0x00, 0x00, 0x00, 0x00, 0x00, 0x00, 0x00, 0x00, 0x00, 0x00, 0x00, // to the refid
-    0x00, 0x00, 0x00, 0x00, 0x00, 0x00, 0x00, 0x00, 0x00, 0x00, 0x00, 0x00, 0x00, 0x00, 0x00, 0x00, // to the origin
-    0x00, 0x00, 0x00, 0x00, 0x00, 0x00, 0x00, 0x00, 0x11, 0x22, 0x33, 0x44, 0x55, 0x66, 0x77, 0x88,
-];
 
 pub const NONE: Served = Served {
     answered: 0,

@@ -3,18 +3,9 @@ use crate::scene::Unplayed;
 use crate::scene::made::add_hex;
 use crate::scene::texts::{Words, number};
 use feed_link::Address;
-use memory_outside::{LinkEvent, MemoryLink, Planned};
+use memory_outside::{ANSWER_DIGITS, LinkEvent, MemoryLink, Planned, REQUEST_DIGITS};
 use std::alloc::Global;
 use tick_units::Local;
-
-// A request of version 4 with a poll of 64 s, sent at 0x1122334455667788 by the client's clock.
-const REQUEST: &str =
-    "230006ec0000000000000000000000000000000000000000000000000000000000000000000000001122334455667788";
-
-// The answer of a server of stratum 2 to the request of 1 s, received at 2026-01-01 12:05:05 UTC and answered half a millisecond later: worked by
-// hand from RFC 5905, section 8.
-const ANSWER: &str =
-    "240206ec00000100000002000a00000100000000000000008000000100000000ed00e13100000000ed00e1310020c49b";
 
 // The reply to it from the page of five minutes, where it came and was answered at 303 s, which is 12:04:01 UTC.
 const REPLY: &str =
@@ -86,8 +77,8 @@ pub fn datagram(alloc: Global, words: &str) -> Result<Vec<u8>, Unplayed> {
     for word in words.split(' ') {
         let (digits, zeros) = word.split_once('+').unwrap_or((word, "0"));
         let digits = match digits {
-            "request" => REQUEST,
-            "answer" => ANSWER,
+            "request" => REQUEST_DIGITS,
+            "answer" => ANSWER_DIGITS,
             "reply" => REPLY,
             _ => digits,
         };

@@ -1,16 +1,8 @@
 // Lines that a scene does not spell out.
 use crate::scene::Unplayed;
 use crate::scene::texts::Words;
+use memory_outside::NOON;
 use std::alloc::{AllocError, Global};
-
-// The places that are One in frames of DCF77, computed from the calendar by PTB's table: 1 January 2026, 13:00 to 13:04, which is 12:00 UTC.
-const NOON: [&[u64]; 5] = [
-    &[18, 20, 29, 30, 33, 35, 36, 44, 45, 51, 52, 55],
-    &[18, 20, 21, 28, 29, 30, 33, 35, 36, 44, 45, 51, 52, 55],
-    &[18, 20, 22, 28, 29, 30, 33, 35, 36, 44, 45, 51, 52, 55],
-    &[18, 20, 21, 22, 29, 30, 33, 35, 36, 44, 45, 51, 52, 55],
-    &[18, 20, 23, 28, 29, 30, 33, 35, 36, 44, 45, 51, 52, 55],
-];
 
 /// Adds what a made line stands for:
 ///
@@ -67,7 +59,7 @@ fn width_at(second: u64) -> u32 {
     let ones = NOON.get(frame as usize).map_or(&[][..], |ones| *ones);
     if place == 59 || frame > 5 || (frame == 5 && place > 0) {
         0
-    } else if ones.contains(&place) {
+    } else if ones.contains(&(place as usize)) {
         200_000
     } else {
         100_000
