@@ -146,10 +146,10 @@ messages=$((messages + 1))
 told=$?
 [ "$told:$(cat "$work/said")" = '2:radio_ntpd: cannot open feed 1 (192.0.2.9 port 4124): the host refuses it' ] ||
     wrong "a server's link that can't be opened ends with $told and says '$(cat "$work/said")'"
-# A station that comes by a pipe can't be read once more, so its names are left out.
+# A station that comes by a pipe is named too.
 messages=$((messages + 1))
 printf '[[radio]]\nplan = "dcf"\nlog = "nosuch"\n' | "$program" serve --station /dev/stdin > "$work/out" 2> "$work/said"
-[ "$?:$(cat "$work/said")" = '2:radio_ntpd: cannot open feed 0: there is no such file' ] || wrong "a station by a pipe says '$(cat "$work/said")'"
+[ "$?:$(cat "$work/said")" = '2:radio_ntpd: cannot open feed 0 (nosuch): there is no such file' ] || wrong "a station by a pipe says '$(cat "$work/said")'"
 port=$(python3 -B -m checks.ask port)
 printf '[[link]]\nport = %s\n[[link]]\nport = %s\n' "$port" "$port" > "$work/station"
 says 2 'status 2 open link 1' "radio_ntpd: cannot open link 1 (port $port): another program or link has the port" serve --station "$work/station"
@@ -186,7 +186,7 @@ station 'bound = 1\r\nstart = 0\r\n# K\303\266ln\r\ngap =' toml 'line 4 is not T
 printf 'bound =' > "$work/station"
 messages=$((messages + 1))
 cat "$work/station" | "$program" serve --station /dev/stdin > "$work/out" 2> "$work/said"
-grep -qF 'the station file (/dev/stdin): it is not TOML' "$work/said" || wrong "a station of a pipe says '$(cat "$work/said")'"
+grep -qF 'the station file (/dev/stdin): line 1 is not TOML: invalid value' "$work/said" || wrong "a station of a pipe says '$(cat "$work/said")'"
 station 'boundd = 1\n' 'unknown boundd' 'there is no key boundd'
 station '[[link]]\nport = 123\nbound = 1\n' 'unknown link.0.bound' 'there is no key link.0.bound; bound stands above the first [[..]]'
 station '[[radio]]\nplan = "dcf"\n' 'missing radio.0.log' 'the key radio.0.log is missing'

@@ -1,7 +1,6 @@
 """How a command ends when it can't be done: exit statuses, `Fault`, and the sentences on what the
 program or the host says."""
 
-import re
 
 DONE = 0
 NOT_WELL = 1  # what was asked for was done, and something isn't well
@@ -31,15 +30,6 @@ def reason(said: bytes) -> str:
     says none."""
     lines = said.decode("utf-8", "replace").splitlines()
     return lines[-1].removeprefix("radio_ntpd: ") if lines else ""
-
-
-def with_port(said: str, ports: list[int]) -> str:
-    """The program's sentence on a link that it cannot open, with the link's port: it doesn't name
-    it, since it has the station by a pipe."""
-    opened = re.match(r"cannot open link ([0-9]+)(?=:)", said)
-    if not opened or int(opened[1]) >= len(ports):
-        return said
-    return f"{opened[0]} (port {ports[int(opened[1])]}){said[opened.end():]}"
 
 
 def sentence(error: OSError) -> str:

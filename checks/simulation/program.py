@@ -97,7 +97,8 @@ class Run(Process):
             link = next((one for one in given if isinstance(one, Server)
                          and one.port == row["port"]), None)
             if link is None:
-                self._say(f"radio_ntpd: cannot open link {place}: nobody handed its socket\n")
+                self._say(f"radio_ntpd: cannot open link {place} (port {row['port']}): "
+                          "nobody handed its socket\n")
                 self.end(2)
                 return
             self.links.append(link)

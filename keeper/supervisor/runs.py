@@ -14,7 +14,7 @@ from keeper.supervisor.pipes import Outlet
 from keeper.supervisor.host import Child, Host
 from keeper.supervisor.journals import OUT, name_of
 from keeper.supervisor.radios import Feed, Heard
-from keeper.errors import ended, with_port
+from keeper.errors import ended
 
 HEARINGS = 1_000_000  # the most that `serve` takes
 POLLS = 100_000  # the most that a station takes
@@ -195,7 +195,7 @@ class Run:
         with contextlib.suppress(OSError):
             said = self.host.read(self.errors, SENTENCES)
         lines = said.decode("utf-8", "replace").strip().splitlines() or [""]
-        why = with_port(lines[-1].removeprefix("radio_ntpd: "), self.settings.links)
+        why = lines[-1].removeprefix("radio_ntpd: ")
         return ": ".join(filter(None, ("doesn't answer" if status is None else ended(status), why)))
 
     def _close_pipes(self) -> None:

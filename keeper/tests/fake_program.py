@@ -192,8 +192,9 @@ def serve(words: argparse.Namespace) -> int:
             links.append(open_link(service, row["port"]))
         except (OSError, KeyError):
             print(f"status 2 open link {place}")
-            said = f"radio_ntpd: cannot open link {place}: another program or link has the port"
-            print(said, file=sys.stderr)
+            what = f"link {place} (port {row.get('port')})"
+            print(f"radio_ntpd: cannot open {what}: another program or link has the port",
+                  file=sys.stderr)
             return 2
         counts.append([0, 0, 0])
     during = int(os.environ.get("FAKE_HEARINGS", words.during))

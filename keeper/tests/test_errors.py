@@ -2,19 +2,10 @@
 
 import unittest
 
-from keeper.errors import Fault, reason, sentence, with_port
+from keeper.errors import Fault, reason, sentence
 
 
 class Sentences(unittest.TestCase):
-    def test_a_link_is_named_with_its_port(self) -> None:
-        taken = "another program or link has the port"
-        for said, due in (
-            (f"cannot open link 1: {taken}", f"cannot open link 1 (port 323): {taken}"),
-            ("cannot open link 2: x", "cannot open link 2: x"),
-            ("cannot open feed 1: x", "cannot open feed 1: x"), ("", ""),
-        ):
-            self.assertEqual(with_port(said, [123, 323]), due)
-
     def test_what_the_program_says_last(self) -> None:
         for said, due in ((b"a note\nradio_ntpd: cannot open feed 0\n", "cannot open feed 0"),
                           (b"", ""), (b"\xff\n", "\ufffd")):

@@ -6,6 +6,7 @@ pub mod LineFileLaws
 pub mod LineTakingLaws
 pub mod MovingLaws
 pub mod OpeningLaws
+pub mod ReportLaws
 pub mod StationFileLaws
 pub mod TakingLaws
 pub mod WritingLaws

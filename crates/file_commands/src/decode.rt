@@ -3,16 +3,18 @@ ghost use Rattle.std.specs.Prelude.{◌≡◌};
 ghost use Rattle.file_commands.specs.Decoding.{Decodes, RunsDecode};
 ghost use Rattle.file_commands.specs.Effects.{effect_of};
 ghost use Rattle.file_commands.specs.LogTaking.{IsFound};
+ghost use Rattle.file_commands.specs.Reports.{Reports, status_in};
 ghost use Rattle.radio_receiver.specs.Histories.{blank_of};
 ghost use Rattle.file_commands.specs.Taking.{Fits};
 ghost use Rattle.tick_units.specs.declared.marks.Plan.{Plan};
 
 use crate::ending::Ending;
-use crate::ending::status::Status;
 use crate::ending::subject::Subject;
 use crate::ending::writing::finish;
 use crate::lines::write_entry_line;
+use crate::outcome::{Known, Outcome};
 use crate::reading::{Gives, Line, Taker, ending_at, read_lines};
+use crate::report::Report;
 use feed_link::{Failed, Outside, Sink, Source};
 use file_reader::LogEnd;
 use journal_entry::Entry;
@@ -68,24 +70,27 @@ impl<R: Receiver> Taker for LogDecoder<R> {
 }
 
 // Decodes a log with a blank receiver, and writes the lines of its entries and the status line.
-fn decode_with<S: Source, R: Receiver, K: Sink>(log: &mut S, receiver: R, out: &mut K) -> Status
+fn decode_with<S: Source, R: Receiver, K: Sink>(log: &mut S, receiver: R, out: &mut K) -> Report
     requires { R.least_start receiver ≡ 0 }
     ensures number { S.opening log.new ≡ S.opening log.old }
     ensures decodes { (plan : Plan) → R.stands_for receiver (blank_of plan) →
-        Decodes plan (S.state log.old) (S.state log.new) (K.state out.old) (K.state out.new) result }
+        Decodes plan (S.state log.old) (S.state log.new) (K.state out.old) (K.state out.new) (status_in result) }
+    ensures reports { (plan : Plan) → R.stands_for receiver (blank_of plan) →
+        Reports result (K.state out.old) (K.state out.new) }
 {
     let mut decoder = LogDecoder::new(0, receiver);
     match read_lines(log, &mut decoder, LOG_LIMIT, out) {
         Ok(end) => finish(ending_at(Subject::Feed(0), end), out),
-        Err(Failed) => Status::WriteFault,
+        Err(Failed) => Report::Unwritten,
     }
 }
 
 // Decodes the log of a plan. Its receiver is here and not in a box, since a call through a box for each reduction costs much
 // time.
-fn decode<S: Source, K: Sink>(log: &mut S, plan: Plan, out: &mut K) -> Status
+fn decode<S: Source, K: Sink>(log: &mut S, plan: Plan, out: &mut K) -> Report
     ensures number { S.opening log.new ≡ S.opening log.old }
-    ensures decodes { Decodes plan (S.state log.old) (S.state log.new) (K.state out.old) (K.state out.new) result }
+    ensures decodes { Decodes plan (S.state log.old) (S.state log.new) (K.state out.old) (K.state out.new) (status_in result) }
+    ensures reports { Reports result (K.state out.old) (K.state out.new) }
 {
     match plan {
         Plan::Dcf => decode_with(log, DcfReceiver::new(), out),
@@ -100,15 +105,22 @@ pub fn open_and_decode<O: Outside, K: Sink>(
     name: &str,
     outside: &mut O,
     out: &mut K,
-) -> Status
+) -> Outcome
     ensures gate { O.gate_out outside.new ≡ O.gate_out outside.old }
     ensures runs { RunsDecode plan name.now
-        (effect_of (O.state outside.old) (O.state outside.new) (K.state out.old) (K.state out.new) result) }
+        (effect_of (O.state outside.old) (O.state outside.new) (K.state out.old) (K.state out.new) (status_in result.report)) }
+    ensures reports { Reports result.report (K.state out.old) (K.state out.new) }
 {
     let Ok(mut log) = outside.open_log(name) else {
-        return finish(Ending::NotOpened(Subject::Feed(0)), out);
+        return Outcome {
+            report: finish(Ending::NotOpened(Subject::Feed(0)), out),
+            known: Known::nothing(),
+        };
     };
-    let status = decode(&mut log, plan, out);
+    let report = decode(&mut log, plan, out);
     outside.give_back_log(log);
-    status
+    Outcome {
+        report,
+        known: Known::nothing(),
+    }
 }

@@ -6,6 +6,7 @@ ghost use Rattle.file_commands.specs.Keeping.{TriesFile};
 ghost use Rattle.file_commands.specs.LineFiles.{RunsThrough};
 ghost use Rattle.file_commands.specs.Migrating.{RunsMigrate, journal_of, migrate_ending};
 ghost use Rattle.file_commands.specs.JournalTaking.{IsEven, IsMovedBy};
+ghost use Rattle.file_commands.specs.Reports.{Reports, status_in};
 ghost use Rattle.file_commands.specs.Unopened.{Lacks};
 ghost use Rattle.file_commands.specs.StationFile.{IsObstacle};
 ghost use Rattle.station_reader.specs.Faults.{Says};
@@ -16,10 +17,11 @@ mod mover;
 
 use crate::ending::Ending;
 use crate::ending::page::finish_page;
-use crate::ending::status::Status;
 use crate::ending::subject::Subject;
 use crate::ending::writing::finish;
+use crate::outcome::{Known, Outcome};
 use crate::reading::{ending_at, read_lines};
+use crate::report::Report;
 use crate::station_file::obstacle::{Obstacle, finish_at};
 use crate::station_file::{STATION_LIMIT, judge, open_station};
 use feed_link::{Failed, Outside, Sink, Source};
@@ -45,16 +47,18 @@ fn migrate_ending(end: LogEnd) -> Ending
 }
 
 // Converts a journal to its end: writes its lines in the second form, then the page of their entries and the status line.
-fn move_whole<S: Source, K: Sink>(journal: &mut S, mover: &mut JournalMover, out: &mut K) -> Status
+fn move_whole<S: Source, K: Sink>(journal: &mut S, mover: &mut JournalMover, out: &mut K) -> Report
     requires { IsEven mover.old }
     ensures number { S.opening journal.new ≡ S.opening journal.old }
     ensures runs { (of : StationFields) → IsMovedBy mover.old of [] [] None →
         RunsThrough (journal_of of) (S.state journal.old) (S.state journal.new) (K.state out.old)
-        (K.state out.new) result }
+        (K.state out.new) (status_in result) }
+    ensures reports { (of : StationFields) → IsMovedBy mover.old of [] [] None →
+        Reports result (K.state out.old) (K.state out.new) }
 {
     match read_lines(journal, mover, JOURNAL_LIMIT, out) {
         Ok(end) => finish_page(&mover.mover.page(), migrate_ending(end), out),
-        Err(Failed) => Status::WriteFault,
+        Err(Failed) => Report::Unwritten,
     }
 }
 
@@ -64,20 +68,22 @@ fn open_and_move<O: Outside, K: Sink>(
     mover: JournalMover,
     outside: &mut O,
     out: &mut K,
-) -> Status
+) -> Report
     requires { IsEven mover }
     ensures gate { O.gate_out outside.new ≡ O.gate_out outside.old }
     ensures tried { (of : StationFields) → IsMovedBy mover of [] [] None →
         TriesFile Subject.Journal (journal_of of) name.now
-        (effect_of (O.state outside.old) (O.state outside.new) (K.state out.old) (K.state out.new) result) }
+        (effect_of (O.state outside.old) (O.state outside.new) (K.state out.old) (K.state out.new) (status_in result)) }
+    ensures reports { (of : StationFields) → IsMovedBy mover of [] [] None →
+        Reports result (K.state out.old) (K.state out.new) }
 {
     let mut mover = mover;
     let Ok(mut journal) = outside.open_log(name) else {
         return finish(Ending::NotOpened(Subject::Journal), out);
     };
-    let status = move_whole(&mut journal, &mut mover, out);
+    let report = move_whole(&mut journal, &mut mover, out);
     outside.give_back_log(journal);
-    status
+    report
 }
 
 // The mover for a station file whose reading ended in this way, or what keeps the station from being used.
@@ -100,20 +106,33 @@ pub fn run_migrate<O: Outside, K: Sink>(
     journal: &str,
     outside: &mut O,
     out: &mut K,
-) -> Status
+) -> Outcome
     ensures gate { O.gate_out outside.new ≡ O.gate_out outside.old }
     ensures runs { let effect = effect_of (O.state outside.old) (O.state outside.new) (K.state out.old)
-        (K.state out.new) result in
+        (K.state out.new) (status_in result.report) in
         Lacks effect ⊎ RunsMigrate station.now journal.now effect }
+    ensures reports { Reports result.report (K.state out.old) (K.state out.new) }
 {
     let Ok(mut text) = Vec::with_capacity(alloc, STATION_LIMIT) else {
-        return finish(Ending::NoMemory, out);
+        return Outcome {
+            report: finish(Ending::NoMemory, out),
+            known: Known::nothing(),
+        };
     };
     let Ok(end) = open_station(station, &mut text, outside) else {
-        return finish(Ending::NotOpened(Subject::Station), out);
+        return Outcome {
+            report: finish(Ending::NotOpened(Subject::Station), out),
+            known: Known::nothing(),
+        };
     };
     match prepare(alloc, end, text.as_slice()) {
-        Ok(mover) => open_and_move(journal, mover, outside, out),
-        Err(obstacle) => finish_at(&obstacle, out),
+        Ok(mover) => Outcome {
+            report: open_and_move(journal, mover, outside, out),
+            known: Known::nothing(),
+        },
+        Err(obstacle) => Outcome {
+            report: finish_at(obstacle, out),
+            known: Known::of_text(text),
+        },
     }
 }

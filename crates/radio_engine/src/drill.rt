@@ -3,6 +3,7 @@ ghost use Rattle.std.specs.Prelude.{◌≡◌, ℕ, ◌<◌, ◌≤◌, ◌⊎�
 ghost use Rattle.station_report.specs.DrillScaffold.{HasDayGear, HasDrilled};
 ghost use Rattle.station_report.specs.Drilling.{Drills};
 ghost use Rattle.file_commands.specs.Effects.{effect_of};
+ghost use Rattle.file_commands.specs.Reports.{Reports, status_in};
 ghost use Rattle.file_commands.specs.Unopened.{Lacks};
 ghost use Rattle.receiver_rack.specs.Racks.{IsRack};
 ghost use Rattle.station_config.specs.Station.{one_of_each};
@@ -11,7 +12,7 @@ ghost use Rattle.station_gear.specs.Opens.{IsWhole};
 
 use drill_day::make_logs;
 use feed_link::{Outside, Sink};
-use file_commands::{Ending, Status, finish};
+use file_commands::{Ending, Known, Outcome, finish};
 use memory_links::SureSource;
 use radio_receiver::{BoxedReceiver, Receiver};
 use receiver_rack::fit_radios;
@@ -106,23 +107,36 @@ pub fn run_drill<R: Threads + Wait + Sync, O: Outside, K: Sink>(
     rack: Vec<BoxedReceiver>,
     outside: &mut O,
     out: &mut K,
-) -> Status
+) -> Outcome
     requires limit { (0 < limit) × (limit ≤ 4194304) }
     requires rack { IsRack stands_for rack.items }
     requires gate { O.gate_out outside.old ≡ false }
     ensures gate { O.gate_out outside.new ≡ O.gate_out outside.old }
     ensures runs { let effect = effect_of (O.state outside.old) (O.state outside.new) (K.state out.old)
-        (K.state out.new) result in
+        (K.state out.new) (status_in result.report) in
         Lacks effect ⊎ Drills seed limit effect }
+    ensures reports { Reports result.report (K.state out.old) (K.state out.new) }
 {
     let Ok(station) = Station::one_of_each(alloc) else {
-        return finish(Ending::NoMemory, out);
+        return Outcome {
+            report: finish(Ending::NoMemory, out),
+            known: Known::nothing(),
+        };
     };
     let Ok(kit) = day_kit(rt, alloc, &station, seed, rack) else {
-        return finish(Ending::NoMemory, out);
+        return Outcome {
+            report: finish(Ending::NoMemory, out),
+            known: Known::nothing(),
+        };
     };
     match serve_day(rt, alloc, &station, limit, kit, outside) {
-        Ok(done) => finish_drilled(&station, &done, limit, out),
-        Err(AllocError) => finish(Ending::NoMemory, out),
+        Ok(done) => Outcome {
+            report: finish_drilled(&station, &done, limit, out),
+            known: Known::nothing(),
+        },
+        Err(AllocError) => Outcome {
+            report: finish(Ending::NoMemory, out),
+            known: Known::nothing(),
+        },
     }
 }

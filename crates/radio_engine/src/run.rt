@@ -5,6 +5,7 @@ ghost use Rattle.feed_link.specs.Faults.{Rose};
 ghost use Rattle.file_commands.specs.Effects.{effect_of};
 ghost use Rattle.file_commands.specs.Endings.{status_of, status_line};
 ghost use Rattle.radio_engine.specs.Run.{Runs, IsComplete, IsFaultless};
+ghost use Rattle.file_commands.specs.Reports.{Reports, status_in};
 ghost use Rattle.file_commands.specs.Unopened.{Refuses, Lacks};
 ghost use Rattle.file_commands.specs.Writing.{Answers};
 ghost use Rattle.file_commands.specs.declared.ending.Ending.TheVariants.{NoMemory};
@@ -14,7 +15,7 @@ use crate::drill::run_drill;
 use crate::serve::run_serve;
 use command_words::{Command, WordsFault, read_words};
 use feed_link::{Outside, Sink};
-use file_commands::{Ending, Status, finish, open_and_decode, run_migrate};
+use file_commands::{Ending, Known, Outcome, Status, finish, open_and_decode, run_migrate};
 use radio_receiver::Receiver;
 use replay_command::run_replay;
 use station_crew::{Budget, Orders};
@@ -22,11 +23,92 @@ use std::alloc::Global;
 use std::sync::Wait;
 use std::thread::Threads;
 
-/// Ends a command where there was not enough memory before anything was opened: writes the status line.
-pub fn end_without_memory<K: Sink>(out: &mut K) -> Status
-    ensures { Answers (status_of NoMemory) result (K.state out.old) (K.state out.new) (status_line NoMemory) }
+/// What came of a command where there was not enough memory before anything was opened: writes the status line.
+pub fn end_without_memory<K: Sink>(out: &mut K) -> Outcome
+    ensures answers { Answers (status_of NoMemory) (status_in result.report) (K.state out.old) (K.state out.new) (status_line NoMemory) }
+    ensures reports { Reports result.report (K.state out.old) (K.state out.new) }
 {
-    finish(Ending::NoMemory, out)
+    Outcome {
+        report: finish(Ending::NoMemory, out),
+        known: Known::nothing(),
+    }
+}
+
+/// Runs the command that the arguments spell, as `run_station` does, and answers what came of it.
+pub fn run_to_outcome<R: Threads + Wait + Sync, O: Outside, K: Sink>(
+    rt: &R,
+    alloc: Global,
+    words: &[&str],
+    rack: Vec<Box<dyn Receiver + Send>>,
+    outside: &mut O,
+    out: &mut K,
+) -> Outcome
+    requires rack { IsRack stands_for rack.items }
+    requires gate { O.gate_out outside.old ≡ false }
+    ensures gate { O.gate_out outside.new ≡ O.gate_out outside.old }
+
+    // Refuses arguments that ask for no command, and opens nothing.
+    ensures refused { let effect = effect_of (O.state outside.old) (O.state outside.new) (K.state out.old)
+        (K.state out.new) (status_in result.report) in
+        ((asked : Asked) → AskFor (map (λ w. w.now) words.now) asked → ⊥) → Refuses effect ⊎ Lacks effect }
+
+    // Runs the command that they ask for: what it opens, reads, writes and gives back, and the cause of its answer.
+    ensures runs { let effect = effect_of (O.state outside.old) (O.state outside.new) (K.state out.old)
+        (K.state out.new) (status_in result.report) in
+        (asked : Asked) → AskFor (map (λ w. w.now) words.now) asked → Lacks effect ⊎ Runs asked effect }
+
+    // Where nothing has a fault, all is done.
+    ensures complete { (asked : Asked) → AskFor (map (λ w. w.now) words.now) asked →
+        IsFaultless asked (O.state outside.old) (O.state outside.new) →
+        (Rose (K.state out.old).faults (K.state out.new).faults → ⊥) →
+        IsComplete asked (status_in result.report) }
+
+    // The last line that it writes reports what came of it.
+    ensures reports { Reports result.report (K.state out.old) (K.state out.new) }
+{
+    match read_words(alloc, words) {
+        Ok(Command::Decode { plan, log }) => open_and_decode(plan, log, outside, out),
+        Ok(
+            Command::Replay {
+                station,
+                script,
+                limit,
+            },
+        ) => run_replay(alloc, station, script, limit, rack, outside, out),
+        Ok(Command::Drill { seed, limit }) => {
+            run_drill(rt, alloc, seed, limit, rack, outside, out)
+        }
+        Ok(Command::Migrate { station, journal }) => {
+            run_migrate(alloc, station, journal, outside, out)
+        }
+        Ok(
+            Command::Serve {
+                station,
+                during,
+                after,
+                limit,
+            },
+        ) => {
+            let budget = Budget { during, after };
+            run_serve(
+                rt,
+                alloc,
+                station,
+                Orders { limit, budget },
+                rack,
+                outside,
+                out,
+            )
+        }
+        Err(WordsFault::Usage) => Outcome {
+            report: finish(Ending::WrongWords, out),
+            known: Known::nothing(),
+        },
+        Err(WordsFault::Memory) => Outcome {
+            report: finish(Ending::NoMemory, out),
+            known: Known::nothing(),
+        },
+    }
 }
 
 /// Runs the command that the arguments spell. `decode` opens its log once, writes a line for each answer as it comes and then the
@@ -68,41 +150,5 @@ pub fn run_station<R: Threads + Wait + Sync, O: Outside, K: Sink>(
         (Rose (K.state out.old).faults (K.state out.new).faults → ⊥) →
         IsComplete asked result }
 {
-    match read_words(alloc, words) {
-        Ok(Command::Decode { plan, log }) => open_and_decode(plan, log, outside, out),
-        Ok(
-            Command::Replay {
-                station,
-                script,
-                limit,
-            },
-        ) => run_replay(alloc, station, script, limit, rack, outside, out),
-        Ok(Command::Drill { seed, limit }) => {
-            run_drill(rt, alloc, seed, limit, rack, outside, out)
-        }
-        Ok(Command::Migrate { station, journal }) => {
-            run_migrate(alloc, station, journal, outside, out)
-        }
-        Ok(
-            Command::Serve {
-                station,
-                during,
-                after,
-                limit,
-            },
-        ) => {
-            let budget = Budget { during, after };
-            run_serve(
-                rt,
-                alloc,
-                station,
-                Orders { limit, budget },
-                rack,
-                outside,
-                out,
-            )
-        }
-        Err(WordsFault::Usage) => finish(Ending::WrongWords, out),
-        Err(WordsFault::Memory) => finish(Ending::NoMemory, out),
-    }
+    run_to_outcome(rt, alloc, words, rack, outside, out).status()
 }

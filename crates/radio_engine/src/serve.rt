@@ -2,6 +2,7 @@
 ghost use Rattle.std.specs.Prelude.{◌≡◌, ◌<◌, ◌≤◌, ◌⊎◌, IfOk, false};
 ghost use Rattle.station_report.specs.Crewing.{TriesServe, subject_of};
 ghost use Rattle.file_commands.specs.Effects.{effect_of};
+ghost use Rattle.file_commands.specs.Reports.{Reports, status_in};
 ghost use Rattle.file_commands.specs.Unopened.{Lacks};
 ghost use Rattle.station_report.specs.Serving.{RunsServe};
 ghost use Rattle.receiver_rack.specs.Racks.{IsRack};
@@ -10,7 +11,7 @@ ghost use Rattle.station_gear.specs.Gears.{IsEmptyFor};
 
 use feed_link::{Outside, Sink};
 use file_commands::{
-    Ending, STATION_LIMIT, Status, Subject, finish, finish_at, judge, open_station,
+    Ending, Known, Outcome, STATION_LIMIT, Subject, finish, finish_at, judge, open_station,
 };
 use radio_receiver::{BoxedReceiver, Receiver};
 use receiver_rack::fit_radios;
@@ -100,27 +101,43 @@ pub fn run_serve<R: Threads + Wait + Sync, O: Outside, K: Sink>(
     rack: Vec<BoxedReceiver>,
     outside: &mut O,
     out: &mut K,
-) -> Status
+) -> Outcome
     requires limit { (0 < orders.limit) × (orders.limit ≤ 4194304) }
     requires rack { IsRack stands_for rack.items }
     requires gate { O.gate_out outside.old ≡ false }
     ensures gate { O.gate_out outside.new ≡ O.gate_out outside.old }
     ensures runs { let effect = effect_of (O.state outside.old) (O.state outside.new) (K.state out.old)
-        (K.state out.new) result in
+        (K.state out.new) (status_in result.report) in
         Lacks effect ⊎ RunsServe name.now orders effect }
+    ensures reports { Reports result.report (K.state out.old) (K.state out.new) }
 {
     let Ok(mut text) = Vec::with_capacity(alloc, STATION_LIMIT) else {
-        return finish(Ending::NoMemory, out);
+        return Outcome {
+            report: finish(Ending::NoMemory, out),
+            known: Known::nothing(),
+        };
     };
     let Ok(end) = open_station(name, &mut text, outside) else {
-        return finish(Ending::NotOpened(Subject::Station), out);
+        return Outcome {
+            report: finish(Ending::NotOpened(Subject::Station), out),
+            known: Known::nothing(),
+        };
     };
     let station = match judge(alloc, end, text.as_slice()) {
         Ok(station) => station,
-        Err(obstacle) => return finish_at(&obstacle, out),
+        Err(obstacle) => return Outcome {
+            report: finish_at(obstacle, out),
+            known: Known::of_text(text),
+        },
     };
     match serve(rt, alloc, &station, orders, rack, outside) {
-        Ok(done) => finish_served(&station, &done, orders.limit, out),
-        Err(ending) => finish(ending, out),
+        Ok(done) => Outcome {
+            report: finish_served(&station, &done, orders.limit, out),
+            known: Known::of_station(station),
+        },
+        Err(ending) => Outcome {
+            report: finish(ending, out),
+            known: Known::of_station(station),
+        },
     }
 }

@@ -8,15 +8,15 @@ ghost use Rattle.std.specs.Process.{exit_status};
 ghost use Rattle.std.specs.String.{string_bytes};
 ghost use Rattle.file_commands.specs.Effects.{effect_of};
 ghost use Rattle.file_commands.specs.Endings.{number_of, status_of, status_line};
+ghost use Rattle.file_commands.specs.Reports.{Reports, status_in};
 ghost use Rattle.radio_engine.specs.Run.{IsRun};
 ghost use Rattle.file_commands.specs.Writing.{Answers};
 ghost use Rattle.file_commands.specs.declared.ending.Ending.TheVariants.{NoMemory};
-ghost use Rattle.file_commands.specs.declared.ending.status.Status.{Status};
 
 use feed_link::{Outside, Sink};
 use host_arguments::{arguments_of, texts_of};
 use host_links::{HostOutside, StreamSink};
-use radio_engine::{Status, end_without_memory, run_station};
+use radio_engine::{Outcome, end_without_memory, run_to_outcome};
 use radio_receiver::{DcfReceiver, MsfReceiver, Receiver, WwvbReceiver};
 use receiver_rack::put_in_rack;
 use run_report::{write_beginning, write_report};
@@ -43,47 +43,95 @@ fn main(rt: HostRuntime) -> ExitCode {
     }
     if let Some(handed) = handed_over(&rt, process::id(rt.process())) {
         let mut outside = ServiceOutside::new(&rt, &handed);
-        let code = run_program(&rt, rt.alloc(), &words, &mut outside, &mut out);
-        write_report(&rt, &words, are_text, outside.refusal(), out.stream());
+        let ended = run_program(&rt, rt.alloc(), &words, &mut outside, &mut out);
+        let minutes = out.stream().minutes();
+        write_report(
+            &rt,
+            &words,
+            are_text,
+            ended.outcome,
+            outside.refusal(),
+            minutes,
+        );
         write_reason(&rt, &outside);
-        return code;
+        return ended.code;
     }
     let mut outside = HostOutside::new(&rt);
-    let code = run_program(&rt, rt.alloc(), &words, &mut outside, &mut out);
-    write_report(&rt, &words, are_text, outside.refusal(), out.stream());
-    code
+    let ended = run_program(&rt, rt.alloc(), &words, &mut outside, &mut out);
+    let minutes = out.stream().minutes();
+    write_report(
+        &rt,
+        &words,
+        are_text,
+        ended.outcome,
+        outside.refusal(),
+        minutes,
+    );
+    ended.code
 }
 
-// Runs the program: the command that the arguments ask for. Where there was not enough memory for them, or there is not for what
-// the command is handed, it opens nothing and writes only the status line. It ends with the number of its status.
+// What came of a run, and the exit status that says so.
+#[derive(Drop)]
+struct Ended {
+    code: ExitCode,
+    outcome: Outcome,
+}
+
+// Runs the program: the command that the arguments ask for. It ends with the number of its status.
 fn run_program<R: Threads + Wait + Sync, O: Outside, K: Sink>(
     rt: &R,
     alloc: Global,
     words: &Result<Vec<String>, AllocError>,
     outside: &mut O,
     out: &mut K,
-) -> ExitCode
+) -> Ended
     requires { O.gate_out outside.old ≡ false }
-    ensures { (status : Status) × (exit_status result ≡ number_of status) × MatchResult words.now
-        (λ w. IsRun (map (λ t. string_bytes t) w.items)
-        (effect_of (O.state outside.old) (O.state outside.new) (K.state out.old) (K.state out.new) status))
-        (λ _. Answers (status_of NoMemory) status (K.state out.old) (K.state out.new) (status_line NoMemory) ×
-        (O.state outside.new ≡ O.state outside.old)) }
+    ensures code { exit_status result.code ≡ number_of (status_in result.outcome.report) }
+    ensures run { MatchResult words.now
+        (λ w. IsRun (map (λ t. string_bytes t) w.items) (effect_of (O.state outside.old) (O.state outside.new)
+        (K.state out.old) (K.state out.new) (status_in result.outcome.report)))
+        (λ _. Answers (status_of NoMemory) (status_in result.outcome.report) (K.state out.old) (K.state out.new)
+        (status_line NoMemory) × (O.state outside.new ≡ O.state outside.old)) }
+    ensures reports { Reports result.outcome.report (K.state out.old) (K.state out.new) }
 {
-    let Ok(words) = words else {
-        return exit_code(end_without_memory(out));
-    };
-    match run_words(rt, alloc, words.as_slice(), outside, out) {
-        Ok(status) => exit_code(status),
-        Err(AllocError) => exit_code(end_without_memory(out)),
+    let outcome = run_given(rt, alloc, words, outside, out);
+    Ended {
+        code: exit_code(&outcome),
+        outcome,
     }
 }
 
 // The program's exit status.
-fn exit_code(status: Status) -> ExitCode
-    ensures { exit_status result ≡ number_of status }
+fn exit_code(outcome: &Outcome) -> ExitCode
+    ensures { exit_status result ≡ number_of (status_in outcome.now.report) }
 {
-    ExitCode::from(status.number())
+    ExitCode::from(outcome.status().number())
+}
+
+// Runs the command that the arguments ask for. Where there was not enough memory for them, or there is not for what the command is
+// handed, it opens nothing and writes only the status line.
+fn run_given<R: Threads + Wait + Sync, O: Outside, K: Sink>(
+    rt: &R,
+    alloc: Global,
+    words: &Result<Vec<String>, AllocError>,
+    outside: &mut O,
+    out: &mut K,
+) -> Outcome
+    requires { O.gate_out outside.old ≡ false }
+    ensures run { MatchResult words.now
+        (λ w. IsRun (map (λ t. string_bytes t) w.items) (effect_of (O.state outside.old) (O.state outside.new)
+        (K.state out.old) (K.state out.new) (status_in result.report)))
+        (λ _. Answers (status_of NoMemory) (status_in result.report) (K.state out.old) (K.state out.new)
+        (status_line NoMemory) × (O.state outside.new ≡ O.state outside.old)) }
+    ensures reports { Reports result.report (K.state out.old) (K.state out.new) }
+{
+    let Ok(words) = words else {
+        return end_without_memory(out);
+    };
+    match run_words(rt, alloc, words.as_slice(), outside, out) {
+        Ok(outcome) => outcome,
+        Err(AllocError) => end_without_memory(out),
+    }
 }
 
 // Files that take the numbers of those of standard input, output and error that were closed when the program began. Without them
@@ -119,11 +167,12 @@ fn run_words<R: Threads + Wait + Sync, O: Outside, K: Sink>(
     words: &[String],
     outside: &mut O,
     out: &mut K,
-) -> Result<Status, AllocError>
+) -> Result<Outcome, AllocError>
     requires { O.gate_out outside.old ≡ false }
     ensures { MatchResult result
-        (λ status. IsRun (map (λ w. string_bytes w) words.now)
-        (effect_of (O.state outside.old) (O.state outside.new) (K.state out.old) (K.state out.new) status))
+        (λ outcome. IsRun (map (λ w. string_bytes w) words.now)
+        (effect_of (O.state outside.old) (O.state outside.new) (K.state out.old) (K.state out.new) (status_in outcome.report))
+        × Reports outcome.report (K.state out.old) (K.state out.new))
         (λ _. (O.state outside.new ≡ O.state outside.old) × (K.state out.new ≡ K.state out.old)) }
 {
     let texts = texts_of(alloc, words)?;
@@ -133,5 +182,5 @@ fn run_words<R: Threads + Wait + Sync, O: Outside, K: Sink>(
         put_in_rack(&mut rack, Box::new(alloc, MsfReceiver::new())?, Plan::Msf)?;
         put_in_rack(&mut rack, Box::new(alloc, WwvbReceiver::new())?, Plan::Wwvb)?;
     }
-    Ok(run_station(rt, alloc, texts.as_slice(), rack, outside, out))
+    Ok(run_to_outcome(rt, alloc, texts.as_slice(), rack, outside, out))
 }

@@ -6,6 +6,7 @@ ghost use Rattle.file_commands.specs.Keeping.{TriesFile};
 ghost use Rattle.file_commands.specs.LineFiles.{RunsThrough};
 ghost use Rattle.replay_command.specs.Playing.{IsPlayedBy};
 ghost use Rattle.replay_command.specs.Replaying.{RunsReplay, replay_ending, script_of};
+ghost use Rattle.file_commands.specs.Reports.{Reports, status_in};
 ghost use Rattle.file_commands.specs.Unopened.{Lacks};
 ghost use Rattle.file_commands.specs.StationFile.{IsObstacle};
 ghost use Rattle.receiver_rack.specs.Racks.{IsRack};
@@ -18,8 +19,8 @@ mod replayer;
 
 use feed_link::{Failed, Outside, Sink, Source};
 use file_commands::{
-    Ending, Obstacle, STATION_LIMIT, Status, Subject, ending_at, finish, finish_at, finish_page,
-    judge, open_station, read_lines,
+    Ending, Known, Obstacle, Outcome, Report, STATION_LIMIT, Subject, ending_at, finish, finish_at,
+    finish_page, judge, open_station, read_lines,
 };
 use file_reader::{FileEnd, LogEnd};
 use radio_receiver::Receiver;
@@ -46,14 +47,17 @@ fn play_whole<S: Source, K: Sink>(
     replayer: &mut Replayer<BoxedReceiver>,
     limit: u32,
     out: &mut K,
-) -> Status
+) -> Report
     requires ready { IsReady least_start replayer.old.player }
     requires none { replayer.old.lines ≡ 0 }
     ensures number { S.opening script.new ≡ S.opening script.old }
     ensures replays { (station : StationFields) →
         IsPlayedBy stands_for replayer.old (case_of station limit) [] [] None →
         RunsThrough (script_of limit station) (S.state script.old) (S.state script.new) (K.state out.old)
-        (K.state out.new) result }
+        (K.state out.new) (status_in result) }
+    ensures reports { (station : StationFields) →
+        IsPlayedBy stands_for replayer.old (case_of station limit) [] [] None →
+        Reports result (K.state out.old) (K.state out.new) }
 {
     match read_lines(script, replayer, LIMIT, out) {
         Ok(end) => {
@@ -61,7 +65,7 @@ fn play_whole<S: Source, K: Sink>(
             let ending = replay_ending(end, replayer.player.is_full(), limit);
             finish_page(&page, ending, out)
         }
-        Err(Failed) => Status::WriteFault,
+        Err(Failed) => Report::Unwritten,
     }
 }
 
@@ -71,12 +75,14 @@ fn play<S: Source, K: Sink>(
     player: Player<BoxedReceiver>,
     limit: u32,
     out: &mut K,
-) -> Status
+) -> Report
     requires { IsReady least_start player }
     ensures number { S.opening script.new ≡ S.opening script.old }
     ensures replays { (station : StationFields) → HasPlayed stands_for player (case_of station limit) [] →
         RunsThrough (script_of limit station) (S.state script.old) (S.state script.new) (K.state out.old)
-        (K.state out.new) result }
+        (K.state out.new) (status_in result) }
+    ensures reports { (station : StationFields) → HasPlayed stands_for player (case_of station limit) [] →
+        Reports result (K.state out.old) (K.state out.new) }
 {
     let mut replayer = Replayer::new(player);
     play_whole(script, &mut replayer, limit, out)
@@ -89,19 +95,21 @@ fn open_and_play<O: Outside, K: Sink>(
     limit: u32,
     outside: &mut O,
     out: &mut K,
-) -> Status
+) -> Report
     requires { IsReady least_start player }
     ensures gate { O.gate_out outside.new ≡ O.gate_out outside.old }
     ensures tried { (station : StationFields) → HasPlayed stands_for player (case_of station limit) [] →
         TriesFile Subject.Script (script_of limit station) name.now
-        (effect_of (O.state outside.old) (O.state outside.new) (K.state out.old) (K.state out.new) result) }
+        (effect_of (O.state outside.old) (O.state outside.new) (K.state out.old) (K.state out.new) (status_in result)) }
+    ensures reports { (station : StationFields) → HasPlayed stands_for player (case_of station limit) [] →
+        Reports result (K.state out.old) (K.state out.new) }
 {
     let Ok(mut script) = outside.open_log(name) else {
         return finish(Ending::NotOpened(Subject::Script), out);
     };
-    let status = play(&mut script, player, limit, out);
+    let report = play(&mut script, player, limit, out);
     outside.give_back_log(script);
-    status
+    report
 }
 
 // The player of a station file whose reading ended in this way, or what keeps the station from being used.
@@ -139,22 +147,35 @@ pub fn run_replay<O: Outside, K: Sink>(
     rack: Vec<BoxedReceiver>,
     outside: &mut O,
     out: &mut K,
-) -> Status
+) -> Outcome
     requires rack { IsRack stands_for rack.items }
     requires most { limit ≤ 2 ^ 22 }
     ensures gate { O.gate_out outside.new ≡ O.gate_out outside.old }
     ensures runs { let effect = effect_of (O.state outside.old) (O.state outside.new) (K.state out.old)
-        (K.state out.new) result in
+        (K.state out.new) (status_in result.report) in
         Lacks effect ⊎ RunsReplay station.now script.now limit effect }
+    ensures reports { Reports result.report (K.state out.old) (K.state out.new) }
 {
     let Ok(mut text) = Vec::with_capacity(alloc, STATION_LIMIT) else {
-        return finish(Ending::NoMemory, out);
+        return Outcome {
+            report: finish(Ending::NoMemory, out),
+            known: Known::nothing(),
+        };
     };
     let Ok(end) = open_station(station, &mut text, outside) else {
-        return finish(Ending::NotOpened(Subject::Station), out);
+        return Outcome {
+            report: finish(Ending::NotOpened(Subject::Station), out),
+            known: Known::nothing(),
+        };
     };
     match prepare(alloc, end, text.as_slice(), rack, limit) {
-        Ok(player) => open_and_play(script, player, limit, outside, out),
-        Err(obstacle) => finish_at(&obstacle, out),
+        Ok(player) => Outcome {
+            report: open_and_play(script, player, limit, outside, out),
+            known: Known::nothing(),
+        },
+        Err(obstacle) => Outcome {
+            report: finish_at(obstacle, out),
+            known: Known::of_text(text),
+        },
     }
 }

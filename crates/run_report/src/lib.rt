@@ -1,73 +1,25 @@
-//! What a run says on standard error: what its last line, its arguments and its files say, put together and written. No clause
+//! What a run says on standard error: what came of it, and what its arguments and its files say, put together and written. No clause
 //! speaks of it, and a closed standard error changes nothing.
 #![tactic(auto)]
 
 mod beginning;
 
 pub use beginning::write_beginning;
-use file_commands::STATION_LIMIT;
+use file_commands::{Ending, Outcome, Report, STATION_LIMIT, Subject};
 use host_links::Refusal;
 use standard_error::{
-    Argument, BadLine, DONE_LINE, Detail, Kind, LineSeeker, Minutes, NO_MEMORY_LINE, NO_MINUTE,
-    Place, Report, SAMPLE_BYTES, Subject, TOML_LINE, TomlFault, Watched, bad_line_number,
-    is_bad_line, no_minute_text, read_arguments, subject_of, toml_fault, value_of,
+    Argument, BadLine, Detail, LineSeeker, Message, Minutes, NO_MEMORY_LINE, NO_MINUTE,
+    SAMPLE_BYTES, TomlFault, file_of, is_leap_file, no_minute_text, read_arguments, toml_fault,
+    value_of,
 };
 use station_config::Station;
-use station_reader::read_station;
+use station_reader::{StationFault, read_station};
 use std::alloc::{AllocError, Global};
 use std::fs::{self, Files};
-use std::io::{Eprint, Read, Write};
-use std::net::Ipv4Addr;
+use std::io::{Eprint, Read};
 
 // The most bytes of a file that are looked at for its bad line.
 const PIECE: usize = 4096;
-
-// A feed or a link of this name, which is no leap second file.
-fn plain_name(name: String) -> Place {
-    Place {
-        name,
-        is_leap_file: false,
-    }
-}
-
-// What a station has after its radios at a place: servers, and then its leap second file.
-fn after_radios(alloc: Global, station: &Station, place: usize) -> Option<Place> {
-    if let Some(server) = station.server(place) {
-        let ip = Ipv4Addr::from_bits(server.address.ip);
-        let port = server.address.port;
-        return Some(plain_name(format!(in alloc; "{ip} port {port}").ok()?));
-    }
-    Some(Place {
-        name: String::from_str(alloc, station.leap_file()?).ok()?,
-        is_leap_file: true,
-    })
-}
-
-// A feed of a station: the radios come first.
-fn feed(alloc: Global, station: &Station, place: usize) -> Option<Place> {
-    match place.checked_sub(station.radios()) {
-        Some(place) => after_radios(alloc, station, place),
-        None => {
-            let log = station.radio(place)?.log;
-            Some(plain_name(String::from_str(alloc, log).ok()?))
-        }
-    }
-}
-
-// A link of a station.
-fn link(alloc: Global, station: &Station, place: usize) -> Option<Place> {
-    let port = station.link(place)?.port;
-    Some(plain_name(format!(in alloc; "port {port}").ok()?))
-}
-
-// What a station calls a subject. Files that the arguments name do not belong to it.
-fn place_in(alloc: Global, station: &Station, subject: Subject<'_>) -> Option<Place> {
-    match subject.kind {
-        Kind::Feed => feed(alloc, station, subject.place()?),
-        Kind::Link => link(alloc, station, subject.place()?),
-        Kind::Station | Kind::Script | Kind::Journal => None,
-    }
-}
 
 // The first bytes of a file. A pipe is not read a second time, since it gives its bytes once.
 fn beginning_of_file<R: Files + AllocGlobal>(rt: &R, name: &str, most: u64) -> Option<Vec<u8>> {
@@ -96,23 +48,12 @@ fn station_of<R: Files + AllocGlobal>(rt: &R, arguments: &[Argument<'_>]) -> Opt
     read_station(rt.alloc(), text.as_slice()).ok()
 }
 
-// What the station of the arguments calls the subject of the last line.
-fn find_place<R: Files + AllocGlobal>(
-    rt: &R,
-    arguments: &[Argument<'_>],
-    subject: Subject<'_>,
-) -> Option<Place> {
-    let station = station_of(rt, arguments)?;
-    place_in(rt.alloc(), &station, subject)
-}
-
-// Where and why the station of the arguments stops being TOML.
-fn find_toml_fault<R: Files + AllocGlobal>(
-    rt: &R,
-    arguments: &[Argument<'_>],
-) -> Option<TomlFault> {
-    let text = beginning_of(rt, arguments, "station", STATION_LIMIT as u64)?;
-    toml_fault(rt.alloc(), text.as_slice())
+// Where and why the station file of an outcome stops being TOML.
+fn find_toml_fault(alloc: Global, outcome: &Outcome) -> Option<TomlFault> {
+    match &outcome.known.station_text {
+        Some(text) => toml_fault(alloc, text.as_slice()),
+        None => None,
+    }
 }
 
 // Why a log gave no minute, where the arguments ask to decode one.
@@ -151,78 +92,52 @@ fn find_line<R: Files>(rt: &R, name: &str, number: u64) -> Option<LineSeeker> {
 // The file whose line is bad: one that the arguments name, or a feed of the station.
 fn bad_file<'a>(
     arguments: &[Argument<'a>],
-    subject: Subject<'_>,
-    place: &'a Option<Place>,
+    station: &'a Option<Station>,
+    subject: Subject,
 ) -> Option<&'a str> {
-    match subject.kind {
-        Kind::Script => value_of(arguments, "script"),
-        Kind::Journal => value_of(arguments, "journal"),
-        _ => match place {
-            Some(place) => Some(place.name.as_str()),
-            None => value_of(arguments, "log"),
-        },
+    match (subject, station) {
+        (Subject::Script, _) => value_of(arguments, "script"),
+        (Subject::Journal, _) => value_of(arguments, "journal"),
+        (_, Some(station)) => file_of(station, subject),
+        (_, None) => value_of(arguments, "log"),
     }
 }
 
 // The condition that a line does not meet, where one can be named.
 fn fault_in(
     seeker: &LineSeeker,
-    subject: Subject<'_>,
-    place: &Option<Place>,
+    station: &Option<Station>,
+    subject: Subject,
 ) -> Option<&'static str> {
-    match (subject.kind, place) {
-        (Kind::Script | Kind::Journal, _) => seeker.plain_fault(),
-        (_, Some(place)) if place.is_leap_file => Some(seeker.leap_fault()),
+    match (subject, station) {
+        (Subject::Script | Subject::Journal, _) => seeker.plain_fault(),
+        (_, Some(station)) if is_leap_file(station, subject) => Some(seeker.leap_fault()),
         _ => seeker.log_fault(),
     }
 }
 
-// The bad line that the last line names, where its file can be read once more.
+// The bad line of a file, where the file can be read once more.
 fn find_bad_line<R: Files + AllocGlobal>(
     rt: &R,
     arguments: &[Argument<'_>],
-    subject: Subject<'_>,
-    place: &Option<Place>,
+    station: &Option<Station>,
+    subject: Subject,
     number: u64,
 ) -> Option<BadLine> {
-    let name = bad_file(arguments, subject, place)?;
+    let name = bad_file(arguments, station, subject)?;
     let seeker = find_line(rt, name, number)?;
     Some(BadLine {
         text: seeker.shown(rt.alloc()).ok()?,
-        why: fault_in(&seeker, subject, place),
+        why: fault_in(&seeker, station, subject),
     })
 }
 
-// What the last line names: a feed or a link of the station, and a bad line.
-fn find_fault<R: Files + AllocGlobal>(
+// What is said of a run that was done, whose minutes are these.
+fn find_done<R: Files + AllocGlobal>(
     rt: &R,
     arguments: &[Argument<'_>],
-    last_line: &str,
-) -> Option<Detail> {
-    let subject = subject_of(last_line)?;
-    let place = find_place(rt, arguments, subject);
-    if is_bad_line(last_line) {
-        let number = bad_line_number(last_line)?;
-        if let Some(line) = find_bad_line(rt, arguments, subject, &place, number) {
-            return Some(Detail::Line { place, line });
-        }
-    }
-    Some(Detail::Place(place?))
-}
-
-// What the files of a run say beside its last line. `minutes` are those that were written.
-fn find_detail<R: Files + AllocGlobal>(
-    rt: &R,
-    arguments: &[Argument<'_>],
-    last_line: &str,
     minutes: Minutes,
 ) -> Option<Detail> {
-    if last_line == TOML_LINE {
-        return Some(Detail::Toml(find_toml_fault(rt, arguments)?));
-    }
-    if last_line != DONE_LINE {
-        return find_fault(rt, arguments, last_line);
-    }
     match minutes {
         Minutes::None => Some(Detail::Hint(find_hint(rt, arguments)?)),
         Minutes::Differ if value_of(arguments, "plan").is_some() => Some(Detail::Disagreement),
@@ -230,42 +145,65 @@ fn find_detail<R: Files + AllocGlobal>(
     }
 }
 
+// What the files of a run say beside its outcome. `minutes` are those that were written.
+fn find_detail<R: Files + AllocGlobal>(
+    rt: &R,
+    arguments: &[Argument<'_>],
+    outcome: &Outcome,
+    minutes: Minutes,
+) -> Option<Detail> {
+    match &outcome.report {
+        Report::Ended(Ending::Whole) => find_done(rt, arguments, minutes),
+        Report::Ended(Ending::WrongLine(subject, number)) => Some(Detail::Line(find_bad_line(
+            rt,
+            arguments,
+            &outcome.known.station,
+            *subject,
+            *number,
+        )?)),
+        Report::Refused(StationFault::NotToml) => {
+            Some(Detail::Toml(find_toml_fault(rt.alloc(), outcome)?))
+        }
+        _ => None,
+    }
+}
+
 // Writes the message, where there is memory for it.
-fn try_report<R: Files + AllocGlobal + Eprint, W: Write + Drop>(
+fn try_report<R: Files + AllocGlobal + Eprint>(
     rt: &R,
     words: &[String],
     are_text: bool,
+    outcome: Outcome,
     refusal: Option<Refusal>,
-    out: &Watched<W>,
+    minutes: Minutes,
 ) -> Result<(), AllocError> {
-    let last_line = String::from_str(rt.alloc(), out.last_line())?;
     let arguments = read_arguments(rt.alloc(), words)?;
-    let all = arguments.as_slice();
-    let detail = find_detail(rt, all, last_line.as_str(), out.minutes());
-    let report = Report {
+    let detail = find_detail(rt, arguments.as_slice(), &outcome, minutes);
+    let message = Message {
         arguments: if are_text { Some(arguments) } else { None },
-        last_line,
+        outcome,
         refusal,
         detail: detail.unwrap_or(Detail::Nothing),
     };
-    let _ = eprint!(rt; "{report}");
+    let _ = eprint!(rt; "{message}");
     Ok(())
 }
 
 /// Writes on standard error what a person needs to know of a run that has ended: what is wrong, where that can be named, or the
 /// help. Where there is not enough memory for it, the message says only that.
-pub fn write_report<R: Files + AllocGlobal + Eprint, W: Write + Drop>(
+pub fn write_report<R: Files + AllocGlobal + Eprint>(
     rt: &R,
     words: &Result<Vec<String>, AllocError>,
     are_text: bool,
+    outcome: Outcome,
     refusal: Option<Refusal>,
-    out: &Watched<W>,
+    minutes: Minutes,
 ) {
     let words = match words {
         Ok(words) => words.as_slice(),
         Err(_) => &[],
     };
-    if try_report(rt, words, are_text, refusal, out).is_err() {
+    if try_report(rt, words, are_text, outcome, refusal, minutes).is_err() {
         let _ = eprint!(rt; "{NO_MEMORY_LINE}");
     }
 }

@@ -1,8 +1,8 @@
 //! What a person reads on standard error after a command has ended: what is wrong, where that can be named, and the help. No
 //! proof speaks of these texts, and nothing else depends on them.
 //!
-//! To read it in this order: `message` (about a run that has ended), `outcome` (its last line), `watched` (how that line is
-//! kept), `fault`, `arguments`, `commands` (a wrong command line), `fault_line` (a file that is not TOML), `bad_line` (a line that
+//! To read it in this order: `message` (about a run that has ended), `names` (of feeds and links), `watched` (which minutes a log
+//! gave), `fault`, `arguments`, `commands` (a wrong command line), `fault_line` (a file that is not TOML), `bad_line` (a line that
 //! is not valid), `widths` (a log without a minute), `beginning` (a run that begins), `texts` (all of them).
 #![tactic(auto)]
 
@@ -13,7 +13,7 @@ mod commands;
 mod fault;
 mod fault_line;
 mod message;
-mod outcome;
+mod names;
 mod texts;
 mod watched;
 mod widths;
@@ -22,8 +22,8 @@ pub use arguments::{Argument, read_arguments, value_of};
 pub use bad_line::{LeapRow, LineSeeker, log_fault, row_fault};
 pub use beginning::Beginning;
 pub use fault_line::{TomlFault, toml_fault};
-pub use message::{BadLine, Detail, Place, Report};
-pub use outcome::{DONE_LINE, Kind, Subject, TOML_LINE, bad_line_number, is_bad_line, subject_of};
+pub use message::{BadLine, Detail, Message};
+pub use names::{file_of, is_leap_file};
 pub use texts::{NO_MEMORY_LINE, NO_MINUTE};
 pub use watched::{Minutes, Watched};
 pub use widths::{SAMPLE_BYTES, no_minute_text};

@@ -3,23 +3,16 @@
 use crate::arguments::{Argument, value_of};
 use crate::fault::fault_of;
 use crate::fault_line::TomlFault;
-use crate::outcome::{
-    Kind, Subject, bad_line_of, station_fault_of, status_of, subject_of, word_at,
-};
+use crate::names::{is_leap_file, write_name};
 use crate::texts::{
     COMMAND_LINES, FULL, HELP, JOURNAL_LINE, LEAP_LINE, LINK_FAILED, LOG_LINE, NO_MEMORY,
     NO_OUTPUT, NO_TOML, NO_TOML_LINE, NO_TWO_AGREE, NOT_READ, SCRIPT_LINE, VERSION, most_of,
     range_of, write_texts,
 };
+use file_commands::{Ending, Outcome, Report, Subject};
 use host_links::Refusal;
+use station_reader::{KeyText, StationFault};
 use std::fmt;
-
-/// A feed or a link as its station file has it: the name of its file, its address, or its port.
-#[derive(Drop)]
-pub struct Place {
-    pub name: String,
-    pub is_leap_file: bool,
-}
 
 /// A line that is not valid.
 #[derive(Drop)]
@@ -30,14 +23,12 @@ pub struct BadLine {
     pub why: Option<&'static str>,
 }
 
-/// What the files of a run say beside its last line, where they can be read once more.
+/// What the files of a run say beside its outcome.
 #[derive(Drop)]
 pub enum Detail {
     Nothing,
-    /// The feed or the link that the last line names.
-    Place(Place),
-    /// The feed that the last line names, where it is one of a station, and its bad line.
-    Line { place: Option<Place>, line: BadLine },
+    /// The bad line, where its file can be read once more.
+    Line(BadLine),
     /// Where the station file stops being TOML, and why.
     Toml(TomlFault),
     /// Why a log gave no minute.
@@ -46,14 +37,14 @@ pub enum Detail {
     Disagreement,
 }
 
-/// A run that has ended. Its `Display` is the message about it: whole lines, or nothing. It owns its texts, since the borrow
-/// checker does not cover a struct whose parts are lent for different times.
+/// A run that has ended. Its `Display` is the message about it: whole lines, or nothing. It owns its parts, since the borrow checker
+/// does not cover a struct whose parts are lent for different times.
 #[derive(Drop)]
-pub struct Report<'a> {
+pub struct Message<'a> {
     /// What follows the program's name, where that is text.
     pub arguments: Option<Vec<Argument<'a>>>,
-    /// The last line that was written whole, without its line feed. It is empty where there is none.
-    pub last_line: String,
+    /// What came of the command.
+    pub outcome: Outcome,
     /// Why the last opening that failed was refused.
     pub refusal: Option<Refusal>,
     pub detail: Detail,
@@ -135,31 +126,32 @@ fn write_unknown<W: fmt::Write>(key: &str, f: &mut fmt::Formatter<W>) -> fmt::Re
 }
 
 // The message about an array of a station file that is too long: its name and how many it has.
-fn write_many<W: fmt::Write>(many: &str, f: &mut fmt::Formatter<W>) -> fmt::Result {
-    let key = word_at(many, 0);
-    write_texts(f, key, " counts ", word_at(many, 1))?;
-    write_texts(
-        f,
-        ", and there may be ",
-        most_of(key).unwrap_or("fewer"),
-        "",
-    )
+fn write_many<W: fmt::Write>(key: &str, count: u64, f: &mut fmt::Formatter<W>) -> fmt::Result {
+    f.write_str(key)?;
+    write!(f, " counts {count}")?;
+    let most = most_of(key).unwrap_or("fewer");
+    write_texts(f, ", and there may be ", most, "")
+}
+
+// The text of a key.
+fn key_text(key: &KeyText) -> &str {
+    str::from_utf8(key.bytes()).unwrap_or("")
 }
 
 // Why an opening was refused where a right is missing, of a file or of a link.
-fn no_right_text(kind: Kind) -> &'static str {
-    match kind {
-        Kind::Link => "a port below 1024 needs a right",
+fn no_right_text(subject: Subject) -> &'static str {
+    match subject {
+        Subject::Link(_) => "a port below 1024 needs a right",
         _ => "there is no right to read it",
     }
 }
 
 // Why an opening was refused, of a file or of a link.
-fn refusal_text(refusal: Option<Refusal>, kind: Kind) -> &'static str {
+fn refusal_text(refusal: Option<Refusal>, subject: Subject) -> &'static str {
     match refusal {
         Some(Refusal::NotThere) => "there is no such file",
         Some(Refusal::Taken) => "another program or link has the port",
-        Some(Refusal::NoRight) => no_right_text(kind),
+        Some(Refusal::NoRight) => no_right_text(subject),
         Some(Refusal::Other) | None => "the host refuses it",
     }
 }
@@ -168,45 +160,34 @@ fn refusal_text(refusal: Option<Refusal>, kind: Kind) -> &'static str {
 const LEAP_LIMIT: &str = "65536";
 
 // The most bytes of a file that is no leap second file.
-fn limit_text(kind: Kind) -> &'static str {
-    match kind {
-        Kind::Station => "65536",
-        Kind::Script => "2^26",
-        Kind::Journal | Kind::Feed | Kind::Link => "2^30",
+fn limit_text(subject: Subject) -> &'static str {
+    match subject {
+        Subject::Station => "65536",
+        Subject::Script => "2^26",
+        Subject::Journal | Subject::Feed(_) | Subject::Link(_) => "2^30",
     }
 }
 
 // What a line of a file looks like that is no leap second file.
-fn line_text(kind: Kind) -> &'static str {
-    match kind {
-        Kind::Script => SCRIPT_LINE,
-        Kind::Journal => JOURNAL_LINE,
-        Kind::Feed | Kind::Link | Kind::Station => LOG_LINE,
+fn line_text(subject: Subject) -> &'static str {
+    match subject {
+        Subject::Script => SCRIPT_LINE,
+        Subject::Journal => JOURNAL_LINE,
+        Subject::Feed(_) | Subject::Link(_) | Subject::Station => LOG_LINE,
     }
 }
 
 // The option that names a file. A log is the one feed of `decode`.
-fn option_of(kind: Kind) -> &'static str {
-    match kind {
-        Kind::Station => "station",
-        Kind::Script => "script",
-        Kind::Journal => "journal",
-        Kind::Feed | Kind::Link => "log",
+fn option_of(subject: Subject) -> &'static str {
+    match subject {
+        Subject::Station => "station",
+        Subject::Script => "script",
+        Subject::Journal => "journal",
+        Subject::Feed(_) | Subject::Link(_) => "log",
     }
 }
 
-// What a file or a link is called, before its number.
-fn kind_text(kind: Kind) -> &'static str {
-    match kind {
-        Kind::Station => "the station file",
-        Kind::Script => "the script",
-        Kind::Journal => "the journal",
-        Kind::Feed => "feed ",
-        Kind::Link => "link ",
-    }
-}
-
-impl<'a> Report<'a> {
+impl<'a> Message<'a> {
     // The value of an option.
     fn value(&self, option: &str) -> Option<&'a str> {
         match &self.arguments {
@@ -215,46 +196,37 @@ impl<'a> Report<'a> {
         }
     }
 
-    // What the station has at the feed or the link that the last line names.
-    fn place(&self) -> Option<&Place> {
-        match &self.detail {
-            Detail::Place(place) => Some(place),
-            Detail::Line { place, .. } => place.as_ref(),
-            _ => None,
-        }
-    }
-
-    // Whether the feed that the last line names is a leap second file.
-    fn is_leap_file(&self) -> bool {
-        match self.place() {
-            Some(place) => place.is_leap_file,
+    // Whether a subject is a leap second file.
+    fn is_leap_file(&self, subject: Subject) -> bool {
+        match &self.outcome.known.station {
+            Some(station) => is_leap_file(station, subject),
             None => false,
         }
     }
 
     // The most bytes of a file.
-    fn limit_text(&self, kind: Kind) -> &'static str {
-        if self.is_leap_file() {
+    fn limit_text(&self, subject: Subject) -> &'static str {
+        if self.is_leap_file(subject) {
             LEAP_LIMIT
         } else {
-            limit_text(kind)
+            limit_text(subject)
         }
     }
 
     // What a line of a file looks like.
-    fn line_text(&self, kind: Kind) -> &'static str {
-        if self.is_leap_file() {
+    fn line_text(&self, subject: Subject) -> &'static str {
+        if self.is_leap_file(subject) {
             LEAP_LINE
         } else {
-            line_text(kind)
+            line_text(subject)
         }
     }
 
     // Why a line is not valid, and the line, or else what a line looks like.
-    fn write_why<W: fmt::Write>(&self, kind: Kind, f: &mut fmt::Formatter<W>) -> fmt::Result {
-        let general = self.line_text(kind);
+    fn write_why<W: fmt::Write>(&self, subject: Subject, f: &mut fmt::Formatter<W>) -> fmt::Result {
+        let general = self.line_text(subject);
         match &self.detail {
-            Detail::Line { line, .. } => {
+            Detail::Line(line) => {
                 write_texts(f, line.why.unwrap_or(general), ": '", line.text.as_str())?;
                 f.write_str("'")
             }
@@ -262,20 +234,27 @@ impl<'a> Report<'a> {
         }
     }
 
-    // What the last line names, before its number: a decoded log is the only one of its run.
-    fn kind_text(&self, kind: Kind) -> &'static str {
-        match kind {
-            Kind::Feed if self.value("log").is_some() => "the log",
-            _ => kind_text(kind),
+    // Writes a feed, which is the one log where there is no station.
+    fn write_feed<W: fmt::Write>(&self, number: u32, f: &mut fmt::Formatter<W>) -> fmt::Result {
+        if self.outcome.known.station.is_some() {
+            write!(f, "feed {number}")
+        } else {
+            f.write_str("the log")
         }
     }
 
-    // The number of a feed or a link; the others, and a decoded log, have none.
-    fn number_text<'b>(&self, subject: Subject<'b>) -> &'b str {
-        match subject.kind {
-            Kind::Feed if self.value("log").is_none() => subject.number,
-            Kind::Link => subject.number,
-            _ => "",
+    // Writes what a file or a link is called.
+    fn write_kind<W: fmt::Write>(
+        &self,
+        subject: Subject,
+        f: &mut fmt::Formatter<W>,
+    ) -> fmt::Result {
+        match subject {
+            Subject::Station => f.write_str("the station file"),
+            Subject::Script => f.write_str("the script"),
+            Subject::Journal => f.write_str("the journal"),
+            Subject::Feed(number) => self.write_feed(number, f),
+            Subject::Link(number) => write!(f, "link {number}"),
         }
     }
 
@@ -287,21 +266,16 @@ impl<'a> Report<'a> {
         }
     }
 
-    // What the last line names, with its name where that is known.
+    // Writes what a file or a link is called, and its name: that of the station, or the one of the arguments.
     fn write_subject<W: fmt::Write>(
         &self,
-        subject: Subject<'_>,
+        subject: Subject,
         f: &mut fmt::Formatter<W>,
     ) -> fmt::Result {
-        write_texts(
-            f,
-            self.kind_text(subject.kind),
-            self.number_text(subject),
-            "",
-        )?;
-        match self.place() {
-            Some(place) => write_texts(f, " (", place.name.as_str(), ")"),
-            None => self.write_value(option_of(subject.kind), f),
+        self.write_kind(subject, f)?;
+        match &self.outcome.known.station {
+            Some(station) => write_name(station, subject, f),
+            None => self.write_value(option_of(subject), f),
         }
     }
 
@@ -318,23 +292,34 @@ impl<'a> Report<'a> {
     }
 
     // What is wrong with a station file, and with which key.
-    fn write_fault<W: fmt::Write>(&self, f: &mut fmt::Formatter<W>) -> fmt::Result {
-        let (fault, key) = station_fault_of(self.last_line.as_str());
+    fn write_fault<W: fmt::Write>(
+        &self,
+        fault: &StationFault,
+        f: &mut fmt::Formatter<W>,
+    ) -> fmt::Result {
         match fault {
-            "unknown" => write_unknown(key, f),
-            "missing" => write_texts(f, "the key ", key, " is missing"),
-            "range" => write_texts(f, key, " wants ", range_text(key)),
-            "many" => write_many(key, f),
-            _ => self.write_no_toml(f),
+            StationFault::UnknownKey { key } => write_unknown(key_text(key), f),
+            StationFault::Missing { key } => {
+                write_texts(f, "the key ", key_text(key), " is missing")
+            }
+            StationFault::Range { key } => {
+                write_texts(f, key_text(key), " wants ", range_text(key_text(key)))
+            }
+            StationFault::TooMany { key, count } => write_many(key_text(key), *count, f),
+            StationFault::NotToml | StationFault::Memory => self.write_no_toml(f),
         }
     }
 
     // The message about a station file that is refused.
-    fn write_refused<W: fmt::Write>(&self, f: &mut fmt::Formatter<W>) -> fmt::Result {
+    fn write_refused<W: fmt::Write>(
+        &self,
+        fault: &StationFault,
+        f: &mut fmt::Formatter<W>,
+    ) -> fmt::Result {
         f.write_str("radio_ntpd: the station file")?;
         self.write_value("station", f)?;
         f.write_str(": ")?;
-        self.write_fault(f)?;
+        self.write_fault(fault, f)?;
         f.write_str("\n")
     }
 
@@ -342,7 +327,7 @@ impl<'a> Report<'a> {
     fn write_about<W: fmt::Write>(
         &self,
         before: &str,
-        subject: Subject<'_>,
+        subject: Subject,
         after: &str,
         why: &str,
         f: &mut fmt::Formatter<W>,
@@ -355,50 +340,15 @@ impl<'a> Report<'a> {
     // The message about a line that is not valid.
     fn write_bad_line<W: fmt::Write>(
         &self,
-        subject: Subject<'_>,
+        subject: Subject,
+        number: u64,
         f: &mut fmt::Formatter<W>,
     ) -> fmt::Result {
-        write_texts(
-            f,
-            "radio_ntpd: line ",
-            bad_line_of(self.last_line.as_str()),
-            " of ",
-        )?;
+        write!(f, "radio_ntpd: line {number} of ")?;
         self.write_subject(subject, f)?;
         f.write_str(" is bad: ")?;
-        self.write_why(subject.kind, f)?;
+        self.write_why(subject, f)?;
         f.write_str("\n")
-    }
-
-    // The message about a file that is too long.
-    fn write_long<W: fmt::Write>(
-        &self,
-        subject: Subject<'_>,
-        f: &mut fmt::Formatter<W>,
-    ) -> fmt::Result {
-        f.write_str("radio_ntpd: ")?;
-        self.write_subject(subject, f)?;
-        let limit = self.limit_text(subject.kind);
-        write_texts(f, " has more than ", limit, " bytes\n")
-    }
-
-    // The message about a subject at fault: 2, 4, 5, 7 or 10 is the status.
-    fn write_at_fault<W: fmt::Write>(
-        &self,
-        status: u8,
-        subject: Subject<'_>,
-        f: &mut fmt::Formatter<W>,
-    ) -> fmt::Result {
-        match status {
-            2 => {
-                let why = refusal_text(self.refusal, subject.kind);
-                self.write_about("cannot open ", subject, ": ", why, f)
-            }
-            4 => self.write_about("cannot read ", subject, ": ", NOT_READ, f),
-            5 => self.write_bad_line(subject, f),
-            7 => self.write_about("the host failed ", subject, ": ", LINK_FAILED, f),
-            _ => self.write_long(subject, f),
-        }
     }
 
     // The message about arguments that ask for no command.
@@ -423,29 +373,43 @@ impl<'a> Report<'a> {
         }
     }
 
-    // The message about a run whose last line names no file and no link.
-    fn write_plain<W: fmt::Write>(&self, status: u8, f: &mut fmt::Formatter<W>) -> fmt::Result {
-        match status {
-            0 => self.write_done(f),
-            1 => self.write_usage(f),
-            3 => self.write_refused(f),
-            6 => {
-                write_texts(f, "radio_ntpd: ", FULL, ": ")?;
-                write_texts(f, word_at(self.last_line.as_str(), 3), "\n", "")
+    // The message about a run that has ended in this way.
+    fn write_ending<W: fmt::Write>(
+        &self,
+        ending: Ending,
+        f: &mut fmt::Formatter<W>,
+    ) -> fmt::Result {
+        match ending {
+            Ending::Whole => self.write_done(f),
+            Ending::WrongWords => self.write_usage(f),
+            Ending::NotOpened(subject) => {
+                let why = refusal_text(self.refusal, subject);
+                self.write_about("cannot open ", subject, ": ", why, f)
             }
-            9 => write_texts(f, "radio_ntpd: ", NO_MEMORY, "\n"),
-            _ => write_texts(f, "radio_ntpd: ", NO_OUTPUT, "\n"),
+            Ending::NotRead(subject) => {
+                self.write_about("cannot read ", subject, ": ", NOT_READ, f)
+            }
+            Ending::WrongLine(subject, number) => self.write_bad_line(subject, number, f),
+            Ending::Full(limit) => write!(f, "radio_ntpd: {FULL}: {limit}\n"),
+            Ending::LinkFailed(subject) => {
+                self.write_about("the host failed ", subject, ": ", LINK_FAILED, f)
+            }
+            Ending::NoMemory => write_texts(f, "radio_ntpd: ", NO_MEMORY, "\n"),
+            Ending::Long(subject) => {
+                f.write_str("radio_ntpd: ")?;
+                self.write_subject(subject, f)?;
+                write_texts(f, " has more than ", self.limit_text(subject), " bytes\n")
+            }
         }
     }
 }
 
-impl fmt::Display for Report<'_> {
+impl fmt::Display for Message<'_> {
     fn fmt<W: fmt::Write>(&self, f: &mut fmt::Formatter<W>) -> fmt::Result {
-        let line = self.last_line.as_str();
-        let status = status_of(line);
-        match subject_of(line) {
-            Some(subject) => self.write_at_fault(status, subject, f),
-            None => self.write_plain(status, f),
+        match &self.outcome.report {
+            Report::Ended(ending) => self.write_ending(*ending, f),
+            Report::Refused(fault) => self.write_refused(fault, f),
+            Report::Unwritten => write_texts(f, "radio_ntpd: ", NO_OUTPUT, "\n"),
         }
     }
 }

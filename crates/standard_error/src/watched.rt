@@ -1,4 +1,4 @@
-//! A writer that keeps the last line of what it took, and which minutes its lines were.
+//! A writer that keeps which minutes the lines were that it took.
 
 use std::io::{self, Write};
 
@@ -8,7 +8,7 @@ const ROOM: usize = 512;
 // A log of which this many minutes differ, and no two agree, has a counter that is off, or more than noise.
 const MANY: u32 = 3;
 
-/// A writer that keeps the last line of what it took, and which minutes its lines were.
+/// A writer that keeps which minutes the lines were that it took.
 #[derive(Drop)]
 pub struct Watched<W: Write + Drop> {
     inner: W,
@@ -110,15 +110,6 @@ impl<W: Write + Drop> Watched<W> {
                 has_verdict: false,
                 differing: 0,
             },
-        }
-    }
-
-    /// The last line that was taken, without its line feed, or the first 512 bytes of a longer one. It is empty where the line
-    /// feed was not taken, or where it is not UTF-8.
-    pub fn last_line(&self) -> &str {
-        match self.kept.bytes.get(..self.kept.length) {
-            Some(bytes) if self.kept.is_whole => str::from_utf8(bytes).unwrap_or(""),
-            _ => "",
         }
     }
 

@@ -4,12 +4,13 @@ ghost use Rattle.journal_entry.specs.declared.writer.TheConstants.{LINE_ROOM};
 ghost use Rattle.page_cell.specs.Claims.{of_feed};
 ghost use Rattle.station_report.specs.Crewing.{HasEach};
 ghost use Rattle.station_report.specs.DrillScaffold.{Counted, CountsFound, CountsOne, CountsUpTo, FinishesDrill, answer_found, answer_in, feed_lines, line_of_feed};
+ghost use Rattle.file_commands.specs.Reports.{Reports, status_in};
 ghost use Rattle.sink_text.specs.Writing.{WritesAll, WritesFront};
 
 use crate::cause::ending_of;
 use crate::done::Done;
 use feed_link::{Failed, Sink};
-use file_commands::{Line, Status, finish_page};
+use file_commands::{Line, Report, finish_page};
 use journal_entry::{Entry, LINE_ROOM, TextWriter, What};
 use sink_text::write_all;
 use station_config::Station;
@@ -141,14 +142,15 @@ fn tell_feeds<K: Sink>(journal: &Journal, out: &mut K) -> Result<(), Failed>
 }
 
 /// Writes what a drill has left: how many answers of each kind each feed got, the page of its journal, and the status line.
-/// Returns the status, which is `WriteFault` where a write fails.
-pub fn finish_drilled<K: Sink>(station: &Station, done: &Done, limit: u32, out: &mut K) -> Status
+/// The answer is how it has ended, or that a write has failed.
+pub fn finish_drilled<K: Sink>(station: &Station, done: &Done, limit: u32, out: &mut K) -> Report
     requires { HasEach station.now done.now }
-    ensures { FinishesDrill limit done.now (K.state out.old) (K.state out.new) result }
+    ensures finishes { FinishesDrill limit done.now (K.state out.old) (K.state out.new) (status_in result) }
+    ensures reports { Reports result (K.state out.old) (K.state out.new) }
 {
     let ending = ending_of(station, done, limit);
     match tell_feeds(&done.journal, out) {
         Ok(()) => finish_page(&done.journal.page(), ending, out),
-        Err(Failed) => Status::WriteFault,
+        Err(Failed) => Report::Unwritten,
     }
 }

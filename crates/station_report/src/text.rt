@@ -4,13 +4,14 @@ ghost use Rattle.journal_entry.specs.declared.writer.TheConstants.{LINE_ROOM};
 ghost use Rattle.station_report.specs.Crewing.{FinishesDone, HasEach, line_of_work, totals_by, totals_of};
 ghost use Rattle.station_report.specs.Crewing.{lines_before_page, lines_of_journal};
 ghost use Rattle.station_report.specs.Headline.{each_text, end_word, link_line};
+ghost use Rattle.file_commands.specs.Reports.{Reports, status_in};
 ghost use Rattle.sink_text.specs.Writing.{WritesAll, WritesFront};
 
 use crate::cause::ending_of;
 use crate::done::Done;
 use crew_work::LinkWork;
 use feed_link::{Failed, Sink};
-use file_commands::{Line, Status, finish_page, write_numbered_line};
+use file_commands::{Line, Report, finish_page, write_numbered_line};
 use journal_entry::{LINE_ROOM, TextWriter};
 use responder::{End, Served};
 use sink_text::write_all;
@@ -138,15 +139,16 @@ fn write_lines<K: Sink>(done: &Done, out: &mut K) -> Result<(), Failed>
     write_links(done.work.links.as_slice(), out)
 }
 
-/// Writes what a station has left: its journal, its links, the page of the journal, and the status line. Returns the status, which
-/// is `WriteFault` where a write fails.
-pub fn finish_served<K: Sink>(station: &Station, done: &Done, limit: u32, out: &mut K) -> Status
+/// Writes what a station has left: its journal, its links, the page of the journal, and the status line. The answer
+/// is how it has ended, or that a write has failed.
+pub fn finish_served<K: Sink>(station: &Station, done: &Done, limit: u32, out: &mut K) -> Report
     requires { HasEach station.now done.now }
-    ensures { FinishesDone limit done.now (K.state out.old) (K.state out.new) result }
+    ensures finishes { FinishesDone limit done.now (K.state out.old) (K.state out.new) (status_in result) }
+    ensures reports { Reports result (K.state out.old) (K.state out.new) }
 {
     let ending = ending_of(station, done, limit);
     match write_lines(done, out) {
         Ok(()) => finish_page(&done.journal.page(), ending, out),
-        Err(Failed) => Status::WriteFault,
+        Err(Failed) => Report::Unwritten,
     }
 }

@@ -1,10 +1,12 @@
 //! The messages on standard error, row by row.
 use crate::shared::{same, same_for};
+use file_commands::{Ending, Known, Outcome, Report, Subject};
 use host_links::Refusal;
 use standard_error::{
-    BadLine, Beginning, Detail, LeapRow, LineSeeker, Minutes, Place, Report, TomlFault, Watched,
+    BadLine, Beginning, Detail, LeapRow, LineSeeker, Message, Minutes, TomlFault, Watched,
     log_fault, no_minute_text, read_arguments, row_fault, toml_fault,
 };
+use station_reader::read_station;
 use std::alloc::Global;
 use std::io::Write;
 use std::process::Abort;
@@ -22,8 +24,16 @@ fn words_of(rt: &impl Abort, alloc: Global, text: &str) -> Vec<String> {
     all
 }
 
-fn written(rt: &impl Abort, alloc: Global, report: &Report<'_>) -> String {
-    format!(in alloc; "{report}").expect(rt, "no memory")
+fn written(rt: &impl Abort, alloc: Global, message: &Message<'_>) -> String {
+    format!(in alloc; "{message}").expect(rt, "no memory")
+}
+
+// What came of a run of whose files nothing is known.
+fn outcome_of(report: Report) -> Outcome {
+    Outcome {
+        report,
+        known: Known::nothing(),
+    }
 }
 
 // The message about a run with these arguments.
@@ -31,19 +41,19 @@ fn said(
     rt: &impl Abort,
     alloc: Global,
     words: &str,
-    last_line: &str,
+    outcome: Outcome,
     refusal: Refusal,
     detail: Detail,
 ) -> String {
     let all = words_of(rt, alloc, words);
     let arguments = read_arguments(alloc, all.as_slice()).expect(rt, "no memory");
-    let report = Report {
+    let message = Message {
         arguments: Some(arguments),
-        last_line: text_of(rt, alloc, last_line),
+        outcome,
         refusal: Some(refusal),
         detail,
     };
-    written(rt, alloc, &report)
+    written(rt, alloc, &message)
 }
 
 // What a row leads to has a text in it.
@@ -51,49 +61,56 @@ fn has_text(rt: &impl Abort, row: &str, found: &str, text: &str) {
     assert!(*rt; found.contains(text), "{row}: {found}");
 }
 
-// Looks at a row of arguments, a last line, and a text of the message, with `|` between them.
+// Looks at a row of arguments and a text of the message, with `|` between them.
 fn look(rt: &impl Abort, alloc: Global, row: &str) {
-    let (words, rest) = row.split_once('|').unwrap_or(("", row));
-    let (line, text) = rest.split_once('|').unwrap_or(("", ""));
-    let found = said(rt, alloc, words, line, Refusal::NotThere, Detail::Nothing);
+    let (words, text) = row.split_once('|').unwrap_or((row, "?"));
+    let outcome = outcome_of(Report::Ended(Ending::WrongWords));
+    let found = said(
+        rt,
+        alloc,
+        words,
+        outcome,
+        Refusal::NotThere,
+        Detail::Nothing,
+    );
     has_text(rt, row, found.as_str(), text);
 }
 
-const ARGUMENTS: &str = "serve --staton a|status 1 usage|unknown option --staton
-decode --plan DCF77 --log a|status 1 usage|--plan wants dcf, msf or wwvb
-decode --plan dcf|status 1 usage|decode needs --log
-serve --station a --log b|status 1 usage|serve has no option --log
-drill --seed 07|status 1 usage|--seed wants a whole number from 0 to 4294967295
-server|status 1 usage|unknown command server
-serve decode|status 1 usage|two commands, serve and decode
---station a|status 1 usage|no command
-serve --station|status 1 usage|--station has no value
-serve --station --during 5|status 1 usage|--station has no value
-serve --station -a|status 1 usage|--station has no value: -a begins with a hyphen; write ./ before such a name
-decode --plan dcf --log -|status 1 usage|--log wants a file's name; standard input is /dev/stdin
-serve --station a --during -1|status 1 usage|--during wants a whole number from 0 to 1000000
-drill --seed -1|status 1 usage|--seed wants a whole number from 0 to 4294967295
-decode --plan -|status 1 usage|--plan wants dcf, msf or wwvb
-serve --station=a --station=b|status 1 usage|--station is given twice
-drill --log a --log b|status 1 usage|--log is given twice
-drill --log a|status 1 usage|drill has no option --log
-decode --plan x|status 1 usage|--plan wants dcf, msf or wwvb
-decode --log a --plan x --staton a|status 1 usage|unknown option --staton
-decode --staton a --log|status 1 usage|unknown option --staton
-decode --log -- --staton a|status 1 usage|--log has no value
-decode examples/x.log|status 1 usage|examples/x.log stands alone: a file goes after --log
-examples/x.log decode --plan dcf|status 1 usage|examples/x.log stands alone: a file goes after --log
-decode --plan dcf --log a b|status 1 usage|b stands alone: a file goes after --log
-serve x.toml|status 1 usage|x.toml stands alone: a file goes after --station
-replay --station a b|status 1 usage|b stands alone: a file goes after --script
-migrate a|status 1 usage|a stands alone: a file goes after --station
-drill 7|status 1 usage|7 stands alone: a number goes after --seed
-decode decode|status 1 usage|two commands, decode and decode
--h|status 1 usage|SEED      0 to 4294967295
-|status 1 usage|SEED      0 to 4294967295
-serve -- --station a|status 1 usage|two commands, serve and --station
--- --station|status 1 usage|unknown command --station
---version|status 1 usage|radio_ntpd 0.3.0";
+const ARGUMENTS: &str = "serve --staton a|unknown option --staton
+decode --plan DCF77 --log a|--plan wants dcf, msf or wwvb
+decode --plan dcf|decode needs --log
+serve --station a --log b|serve has no option --log
+drill --seed 07|--seed wants a whole number from 0 to 4294967295
+server|unknown command server
+serve decode|two commands, serve and decode
+--station a|no command
+serve --station|--station has no value
+serve --station --during 5|--station has no value
+serve --station -a|--station has no value: -a begins with a hyphen; write ./ before such a name
+decode --plan dcf --log -|--log wants a file's name; standard input is /dev/stdin
+serve --station a --during -1|--during wants a whole number from 0 to 1000000
+drill --seed -1|--seed wants a whole number from 0 to 4294967295
+decode --plan -|--plan wants dcf, msf or wwvb
+serve --station=a --station=b|--station is given twice
+drill --log a --log b|--log is given twice
+drill --log a|drill has no option --log
+decode --plan x|--plan wants dcf, msf or wwvb
+decode --log a --plan x --staton a|unknown option --staton
+decode --staton a --log|unknown option --staton
+decode --log -- --staton a|--log has no value
+decode examples/x.log|examples/x.log stands alone: a file goes after --log
+examples/x.log decode --plan dcf|examples/x.log stands alone: a file goes after --log
+decode --plan dcf --log a b|b stands alone: a file goes after --log
+serve x.toml|x.toml stands alone: a file goes after --station
+replay --station a b|b stands alone: a file goes after --script
+migrate a|a stands alone: a file goes after --station
+drill 7|7 stands alone: a number goes after --seed
+decode decode|two commands, decode and decode
+-h|SEED      0 to 4294967295
+|SEED      0 to 4294967295
+serve -- --station a|two commands, serve and --station
+-- --station|unknown command --station
+--version|radio_ntpd 0.3.0";
 
 // Looks at each row.
 fn look_at_all(rt: &impl Abort, alloc: Global, rows: &str) {
@@ -107,64 +124,222 @@ fn arguments_that_ask_for_nothing_are_told(rt: HostRuntime) {
     look_at_all(&rt, rt.alloc(), ARGUMENTS);
 }
 
-const STATUSES: &str =
-    "decode --log a.log|status 2 open feed 0|cannot open the log (a.log): there is no such file
-serve --station b.toml|status 3 station toml|the station file (b.toml): it is not TOML, or not UTF-8
-serve|status 3 station unknown odd key|there is no key odd key
-serve|status 3 station unknown link.0.bound|there is no key link.0.bound; bound stands above the first [[..]]
-serve|status 3 station unknown |there is no key 
-serve|status 3 station missing radio.0.log|the key radio.0.log is missing
-serve|status 3 station range link.0.port|link.0.port wants a whole number, 1 to 65535
-serve|status 3 station range bound|bound wants whole milliseconds, 1 to 16000
-serve|status 3 station many link 9|link counts 9, and there may be 8
-replay --script c|status 4 read script|cannot read the script (c): it is a folder
-decode --log a.log|status 5 line 0 2|line 2 of the log (a.log) is bad: a line is START WIDTH
-migrate|status 5 journal 7|line 7 of the journal is bad: man radio_ntpd has the lines of a journal;
-replay --script c|status 5 script 7|line 7 of the script (c) is bad: man radio_ntpd has the lines of a script,
-serve|status 6 full 2|more entries than a journal may have: 2
-serve|status 7 link 1|the host failed link 1: a hearing or a sending of it
-serve|0 1 refused 2|standard output took no more
-serve||standard output took no more
-serve|status 9 memory|no memory was found, and nothing was done
-serve --station b.toml|status 10 long station|the station file (b.toml) has more than 65536 bytes";
+// A run of these arguments without a station that ends so has this text in its message.
+fn ends(rt: &impl Abort, alloc: Global, words: &str, ending: Ending, text: &str) {
+    let outcome = outcome_of(Report::Ended(ending));
+    let found = said(
+        rt,
+        alloc,
+        words,
+        outcome,
+        Refusal::NotThere,
+        Detail::Nothing,
+    );
+    has_text(rt, words, found.as_str(), text);
+}
+
+#[test]
+fn each_ending_of_a_file_has_its_sentence(rt: HostRuntime) {
+    let alloc = rt.alloc();
+    let log = "decode --log a.log";
+    let text = "cannot open the log (a.log): there is no such file";
+    ends(&rt, alloc, log, Ending::NotOpened(Subject::Feed(0)), text);
+    let text = "line 2 of the log (a.log) is bad: a line is START WIDTH";
+    ends(
+        &rt,
+        alloc,
+        log,
+        Ending::WrongLine(Subject::Feed(0), 2),
+        text,
+    );
+    let script = "replay --script c";
+    let text = "cannot read the script (c): it is a folder";
+    ends(&rt, alloc, script, Ending::NotRead(Subject::Script), text);
+    let text = "line 7 of the script (c) is bad: man radio_ntpd has the lines of a script,";
+    ends(
+        &rt,
+        alloc,
+        script,
+        Ending::WrongLine(Subject::Script, 7),
+        text,
+    );
+    let text = "line 7 of the journal is bad: man radio_ntpd has the lines of a journal;";
+    ends(
+        &rt,
+        alloc,
+        "migrate",
+        Ending::WrongLine(Subject::Journal, 7),
+        text,
+    );
+    let text = "more entries than a journal may have: 2\n";
+    ends(&rt, alloc, "serve", Ending::Full(2), text);
+    let text = "no memory was found, and nothing was done";
+    ends(&rt, alloc, "serve", Ending::NoMemory, text);
+    let outcome = outcome_of(Report::Unwritten);
+    let found = said(
+        &rt,
+        alloc,
+        "serve",
+        outcome,
+        Refusal::Other,
+        Detail::Nothing,
+    );
+    has_text(
+        &rt,
+        "a write",
+        found.as_str(),
+        "standard output took no more",
+    );
+}
 
 // The limits of docs/FORMATS.md.
-const LIMITS: &str =
-    "replay --script c|status 10 long script|the script (c) has more than 2^26 bytes
-migrate --journal d|status 10 long journal|the journal (d) has more than 2^30 bytes
-decode --log a.log|status 10 long feed 0|the log (a.log) has more than 2^30 bytes
-serve|status 10 long feed 2|feed 2 has more than 2^30 bytes";
-
 #[test]
 fn a_file_that_is_too_long_has_its_limit(rt: HostRuntime) {
-    look_at_all(&rt, rt.alloc(), LIMITS);
+    let alloc = rt.alloc();
+    let text = "the station file (b.toml) has more than 65536 bytes";
+    ends(
+        &rt,
+        alloc,
+        "serve --station b.toml",
+        Ending::Long(Subject::Station),
+        text,
+    );
+    let text = "the script (c) has more than 2^26 bytes";
+    ends(
+        &rt,
+        alloc,
+        "replay --script c",
+        Ending::Long(Subject::Script),
+        text,
+    );
+    let text = "the journal (d) has more than 2^30 bytes";
+    ends(
+        &rt,
+        alloc,
+        "migrate --journal d",
+        Ending::Long(Subject::Journal),
+        text,
+    );
+    let text = "the log (a.log) has more than 2^30 bytes";
+    ends(
+        &rt,
+        alloc,
+        "decode --log a.log",
+        Ending::Long(Subject::Feed(0)),
+        text,
+    );
+}
+
+// What came of a run whose station file has this text, and is refused.
+fn refusing(rt: &impl Abort, alloc: Global, text: &str) -> Outcome {
+    match read_station(alloc, text.as_bytes()) {
+        Ok(_) => panic!(*rt; "a station: {text}"),
+        Err(fault) => outcome_of(Report::Refused(fault)),
+    }
+}
+
+// Looks at a row of a station file, with `;` for a line feed, and a text of the message, with `|` between them.
+fn look_at_station(rt: &impl Abort, alloc: Global, row: &str) {
+    let (lines, wanted) = row.split_once('|').unwrap_or((row, "?"));
+    let mut text = String::new(alloc);
+    for line in lines.split(';') {
+        text.push_str(line).expect(rt, "no memory");
+        text.push('\n').expect(rt, "no memory");
+    }
+    let outcome = refusing(rt, alloc, text.as_str());
+    let words = "serve --station b.toml";
+    let found = said(rt, alloc, words, outcome, Refusal::Other, Detail::Nothing);
+    has_text(rt, row, found.as_str(), "the station file (b.toml): ");
+    has_text(rt, row, found.as_str(), wanted);
+}
+
+const STATIONS: &str = "bound =|it is not TOML, or not UTF-8
+'odd key' = 1|there is no key odd key
+[[link]];port = 1;bound = 1|there is no key link.0.bound; bound stands above the first [[..]]
+'' = 1|there is no key 
+[[radio]];plan = 'dcf'|the key radio.0.log is missing
+[[link]];port = 0|link.0.port wants a whole number, 1 to 65535
+bound = 0|bound wants whole milliseconds, 1 to 16000";
+
+#[test]
+fn each_fault_of_a_station_file_has_its_sentence(rt: HostRuntime) {
+    for row in STATIONS.split('\n') {
+        look_at_station(&rt, rt.alloc(), row);
+    }
+    let nine =
+        "[[link]];port = 1;[[link]];port = 1;[[link]];port = 1;[[link]];port = 1;[[link]];port = 1;[[link]];port = 1;[[link]];port = 1;[[link]];port = 1;[[link]];port = 1|link counts 9, and there may be 8";
+    look_at_station(&rt, rt.alloc(), nine);
+}
+
+// A radio, two servers, a leap second file and two links.
+const STATION: &str = "leap_file = 'list'
+[[radio]]
+plan = 'dcf'
+log = 'r'
+[[server]]
+address = '192.0.2.9'
+port = 4123
+polls = 0
+[[server]]
+address = '192.0.2.9'
+port = 4124
+polls = 0
+[[link]]
+port = 123
+[[link]]
+port = 124
+";
+
+// The message about a run of this station that ends so.
+fn said_of_station(
+    rt: &impl Abort,
+    alloc: Global,
+    ending: Ending,
+    refusal: Refusal,
+    detail: Detail,
+) -> String {
+    let station = match read_station(alloc, STATION.as_bytes()) {
+        Ok(station) => station,
+        Err(_) => panic!(*rt; "no station"),
+    };
+    let outcome = Outcome {
+        report: Report::Ended(ending),
+        known: Known::of_station(station),
+    };
+    said(rt, alloc, "serve --station s", outcome, refusal, detail)
+}
+
+// It is this text.
+fn of_station(rt: &impl Abort, alloc: Global, ending: Ending, refusal: Refusal, text: &str) {
+    let found = said_of_station(rt, alloc, ending, refusal, Detail::Nothing);
+    same(rt, found.as_str(), text);
 }
 
 #[test]
-fn each_status_has_its_sentence(rt: HostRuntime) {
-    look_at_all(&rt, rt.alloc(), STATUSES);
-}
-
-// A place of a station.
-fn place(rt: &impl Abort, alloc: Global, name: &str, is_leap_file: bool) -> Detail {
-    Detail::Place(Place {
-        name: text_of(rt, alloc, name),
-        is_leap_file,
-    })
-}
-
-// The message about a run of this command, by its last line, is this text.
-fn says(
-    rt: &impl Abort,
-    alloc: Global,
-    word: &str,
-    last_line: &str,
-    refusal: Refusal,
-    detail: Detail,
-    text: &str,
-) {
-    let found = said(rt, alloc, word, last_line, refusal, detail);
-    same(rt, found.as_str(), text);
+fn what_a_station_has_is_named(rt: HostRuntime) {
+    let alloc = rt.alloc();
+    let text = "radio_ntpd: cannot open link 0 (port 123): a port below 1024 needs a right\n";
+    let ending = Ending::NotOpened(Subject::Link(0));
+    of_station(&rt, alloc, ending, Refusal::NoRight, text);
+    let text = "radio_ntpd: cannot open link 1 (port 124): another program or link has the port\n";
+    let ending = Ending::NotOpened(Subject::Link(1));
+    of_station(&rt, alloc, ending, Refusal::Taken, text);
+    let text = "radio_ntpd: cannot open feed 0 (r): there is no right to read it\n";
+    let ending = Ending::NotOpened(Subject::Feed(0));
+    of_station(&rt, alloc, ending, Refusal::NoRight, text);
+    let text = "radio_ntpd: cannot open feed 2 (192.0.2.9 port 4124): the host refuses it\n";
+    let ending = Ending::NotOpened(Subject::Feed(2));
+    of_station(&rt, alloc, ending, Refusal::Other, text);
+    let text =
+        "radio_ntpd: the host failed link 1 (port 124): a hearing or a sending of it; the rest went on\n";
+    let ending = Ending::LinkFailed(Subject::Link(1));
+    of_station(&rt, alloc, ending, Refusal::Other, text);
+    let text = "radio_ntpd: feed 3 (list) has more than 65536 bytes\n";
+    let ending = Ending::Long(Subject::Feed(3));
+    of_station(&rt, alloc, ending, Refusal::Other, text);
+    let text = "radio_ntpd: feed 0 (r) has more than 2^30 bytes\n";
+    let ending = Ending::Long(Subject::Feed(0));
+    of_station(&rt, alloc, ending, Refusal::Other, text);
 }
 
 // A message begins so.
@@ -172,91 +347,57 @@ fn begins(rt: &impl Abort, found: &str, text: &str) {
     assert!(*rt; found.starts_with(text), "{found}");
 }
 
+// The message about a run of this command that was done is this text.
+fn done(rt: &impl Abort, alloc: Global, word: &str, detail: Detail, text: &str) {
+    let outcome = outcome_of(Report::Ended(Ending::Whole));
+    let found = said(rt, alloc, word, outcome, Refusal::Other, detail);
+    same(rt, found.as_str(), text);
+}
+
 #[test]
 fn what_the_files_say_is_named(rt: HostRuntime) {
     let alloc = rt.alloc();
-    let link = place(&rt, alloc, "port 123", false);
-    let text = "radio_ntpd: cannot open link 0 (port 123): a port below 1024 needs a right\n";
-    let last = "status 2 open link 0";
-    says(&rt, alloc, "serve", last, Refusal::NoRight, link, text);
-    let list = place(&rt, alloc, "list", true);
-    let text = "radio_ntpd: feed 3 (list) has more than 65536 bytes\n";
-    let last = "status 10 long feed 3";
-    says(&rt, alloc, "serve", last, Refusal::Other, list, text);
     let hint = Detail::Hint("it is odd");
     let text = "radio_ntpd: the log gave no minute: it is odd\n";
-    says(&rt, alloc, "decode", "status 0", Refusal::Other, hint, text);
-    let none = Detail::Nothing;
-    says(&rt, alloc, "drill", "status 0", Refusal::Other, none, "");
+    done(&rt, alloc, "decode", hint, text);
+    done(&rt, alloc, "drill", Detail::Nothing, "");
+    let text =
+        "radio_ntpd: no two minutes of the log agree, as where its counter is 0.2 % or more too fast or too slow\n";
+    done(&rt, alloc, "decode", Detail::Disagreement, text);
     let line = Detail::Toml(TomlFault {
         line: 12,
         why: text_of(&rt, alloc, "it is odd"),
     });
-    let last = "status 3 station toml";
+    let outcome = refusing(&rt, alloc, "bound =");
+    let found = said(&rt, alloc, "serve", outcome, Refusal::Other, line);
     let text = "radio_ntpd: the station file: line 12 is not TOML: it is odd\n";
-    says(&rt, alloc, "serve", last, Refusal::Other, line, text);
-    let none = Detail::Disagreement;
-    let found = said(&rt, alloc, "decode", "status 0", Refusal::Other, none);
-    begins(
-        &rt,
-        found.as_str(),
-        "radio_ntpd: no two minutes of the log agree",
-    );
+    same(&rt, found.as_str(), text);
 }
 
-// A bad line with this reason, of the station's feed of this name, or of the one log.
-fn bad(rt: &impl Abort, alloc: Global, name: Option<&str>, why: Option<&'static str>) -> Detail {
-    let place = match name {
-        Some(name) => Some(Place {
-            name: text_of(rt, alloc, name),
-            is_leap_file: false,
-        }),
-        None => None,
-    };
-    Detail::Line {
-        place,
-        line: BadLine {
-            text: text_of(rt, alloc, "1 2.5"),
-            why,
-        },
-    }
+// A bad line with this reason.
+fn bad(rt: &impl Abort, alloc: Global, why: Option<&'static str>) -> Detail {
+    Detail::Line(BadLine {
+        text: text_of(rt, alloc, "1 2.5"),
+        why,
+    })
 }
 
 #[test]
 fn a_bad_line_is_shown(rt: HostRuntime) {
     let alloc = rt.alloc();
-    let line = bad(&rt, alloc, None, Some("it is odd"));
+    let line = bad(&rt, alloc, Some("it is odd"));
+    let outcome = outcome_of(Report::Ended(Ending::WrongLine(Subject::Feed(0), 9)));
+    let found = said(&rt, alloc, "decode --log l", outcome, Refusal::Other, line);
     let text = "radio_ntpd: line 9 of the log (l) is bad: it is odd: '1 2.5'\n";
-    let words = "decode --log l";
-    says(
-        &rt,
-        alloc,
-        words,
-        "status 5 line 0 9",
-        Refusal::Other,
-        line,
-        text,
-    );
-    let line = bad(&rt, alloc, Some("r"), Some("it is odd"));
-    let text = "radio_ntpd: line 9 of feed 2 (r) is bad: it is odd: '1 2.5'\n";
-    says(
-        &rt,
-        alloc,
-        "serve",
-        "status 5 line 2 9",
-        Refusal::Other,
-        line,
-        text,
-    );
-    let line = bad(&rt, alloc, None, None);
-    let found = said(
-        &rt,
-        alloc,
-        "migrate",
-        "status 5 journal 9",
-        Refusal::Other,
-        line,
-    );
+    same(&rt, found.as_str(), text);
+    let line = bad(&rt, alloc, Some("it is odd"));
+    let ending = Ending::WrongLine(Subject::Feed(0), 9);
+    let found = said_of_station(&rt, alloc, ending, Refusal::Other, line);
+    let text = "radio_ntpd: line 9 of feed 0 (r) is bad: it is odd: '1 2.5'\n";
+    same(&rt, found.as_str(), text);
+    let line = bad(&rt, alloc, None);
+    let outcome = outcome_of(Report::Ended(Ending::WrongLine(Subject::Journal, 9)));
+    let found = said(&rt, alloc, "migrate", outcome, Refusal::Other, line);
     let text =
         "radio_ntpd: line 9 of the journal is bad: man radio_ntpd has the lines of a journal;";
     begins(&rt, found.as_str(), text);
@@ -265,13 +406,13 @@ fn a_bad_line_is_shown(rt: HostRuntime) {
 
 #[test]
 fn arguments_that_are_no_text_are_told(rt: HostRuntime) {
-    let report = Report {
+    let message = Message {
         arguments: None,
-        last_line: text_of(&rt, rt.alloc(), "status 1 usage"),
+        outcome: outcome_of(Report::Ended(Ending::WrongWords)),
         refusal: None,
         detail: Detail::Nothing,
     };
-    let found = written(&rt, rt.alloc(), &report);
+    let found = written(&rt, rt.alloc(), &message);
     begins(
         &rt,
         found.as_str(),
@@ -657,30 +798,16 @@ fn watched(most: usize) -> Watched<Taking> {
     Watched::new(Taking { most })
 }
 
-// A write takes `count` bytes. The last whole line is `last_line` then.
-fn writes(
-    rt: &impl Abort,
-    watched: &mut Watched<Taking>,
-    piece: &[u8],
-    count: usize,
-    last_line: &str,
-) {
-    let taken = watched.write(piece).ok();
-    same(rt, (taken, watched.last_line()), (Some(count), last_line));
-}
-
 // All of a piece is written.
 fn is_written(rt: &impl Abort, watched: &mut Watched<Taking>, piece: &[u8]) {
     same(rt, watched.write(piece).ok(), Some(piece.len()));
 }
 
 #[test]
-fn the_last_whole_line_is_kept(rt: HostRuntime) {
+fn a_write_may_take_a_part(rt: HostRuntime) {
     let mut watched = watched(3);
-    same(&rt, watched.last_line(), "");
-    writes(&rt, &mut watched, b"ab", 2, "");
-    writes(&rt, &mut watched, b"\nabc\n", 3, "");
-    writes(&rt, &mut watched, b"c\n", 2, "abc");
+    same(&rt, watched.write(b"0 7 lone 1\n").ok(), Some(3));
+    same(&rt, watched.minutes(), Minutes::None);
 }
 
 // Lines of an output, and which minutes they are.
@@ -712,8 +839,7 @@ fn is_remembered(rt: &impl Abort, lines: &str, minutes: Minutes) {
     is_written(rt, &mut watched, b"0 7000000 refused 0\n");
     is_written(rt, &mut watched, lines.as_bytes());
     is_written(rt, &mut watched, b"status 0\n");
-    let found = (watched.minutes(), watched.last_line());
-    same_for(rt, &lines, found, (minutes, "status 0"));
+    same_for(rt, &lines, watched.minutes(), minutes);
 }
 
 fn are_remembered(rt: &impl Abort, outputs: &[(&str, Minutes)]) {
@@ -725,22 +851,4 @@ fn are_remembered(rt: &impl Abort, outputs: &[(&str, Minutes)]) {
 #[test]
 fn minutes_that_were_written_are_remembered(rt: HostRuntime) {
     are_remembered(&rt, &OUTPUTS);
-}
-
-// Of a line of this length, written byte by byte, this many bytes are kept.
-fn is_kept(rt: &impl Abort, length: usize, kept: usize) {
-    let mut watched = watched(100);
-    for _ in 0..length {
-        is_written(rt, &mut watched, b"k");
-    }
-    is_written(rt, &mut watched, b"\n");
-    same(rt, (length, watched.last_line().len()), (length, kept));
-}
-
-#[test]
-fn of_a_long_line_512_bytes_are_kept(rt: HostRuntime) {
-    is_kept(&rt, 511, 511);
-    is_kept(&rt, 512, 512);
-    is_kept(&rt, 513, 512);
-    is_kept(&rt, 600, 512);
 }

@@ -2,13 +2,14 @@
 ghost use Rattle.std.specs.Prelude.{◌≡◌, ◌≤◌, ◌++◌, take};
 ghost use Rattle.journal_entry.specs.declared.writer.TheConstants.{LINE_ROOM};
 ghost use Rattle.file_commands.specs.Endings.{status_of, status_line};
+ghost use Rattle.file_commands.specs.Reports.{Reports, status_in};
 ghost use Rattle.file_commands.specs.Text.{page_text};
 ghost use Rattle.file_commands.specs.Writing.{Answers};
 
 use super::Ending;
-use super::status::Status;
 use super::writing::finish;
 use crate::reading::Line;
+use crate::report::Report;
 use clock_page::Page;
 use feed_link::{Failed, Sink};
 use journal_entry::LINE_ROOM;
@@ -26,15 +27,16 @@ fn write_page_line(page: &Page, line: &mut Line) -> usize
     end + 1
 }
 
-/// Writes the line of a page, and then the status line. The answer is the status, or a write fault.
-pub fn finish_page<K: Sink>(page: &Page, ending: Ending, out: &mut K) -> Status
-    ensures { Answers (status_of ending) result (K.state out.old) (K.state out.new)
+/// Writes the line of a page, and then the status line. The answer is the ending, or that a write has failed.
+pub fn finish_page<K: Sink>(page: &Page, ending: Ending, out: &mut K) -> Report
+    ensures answers { Answers (status_of ending) (status_in result) (K.state out.old) (K.state out.new)
         (page_text page.now ++ status_line ending) }
+    ensures reports { Reports result (K.state out.old) (K.state out.new) }
 {
     let mut line = [0; LINE_ROOM];
     let length = write_page_line(page, &mut line);
     match write_all(out, &line[..length]) {
         Ok(()) => finish(ending, out),
-        Err(Failed) => Status::WriteFault,
+        Err(Failed) => Report::Unwritten,
     }
 }

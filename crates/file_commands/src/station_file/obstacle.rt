@@ -1,14 +1,16 @@
 //! What keeps a station file from being used, and the lines that report it.
 
-ghost use Rattle.std.specs.Prelude.{◌++◌, codes};
+ghost use Rattle.std.specs.Prelude.{◌++◌, OnErr, OnOk, codes};
+ghost use Rattle.file_commands.specs.Reports.{Reports, status_in};
 ghost use Rattle.file_commands.specs.StationFile.{IsNamed, IsTold, many_line, station_line, status_at, line_at};
 ghost use Rattle.file_commands.specs.Writing.{Answers};
 ghost use Rattle.file_commands.specs.declared.ending.status.Status.TheVariants.{Station};
+ghost use Rattle.sink_text.specs.Writing.{WritesAll, WritesFront};
 
 use crate::ending::Ending;
-use crate::ending::status::Status;
 use crate::ending::text::count_text;
 use crate::ending::writing::finish;
+use crate::report::Report;
 use feed_link::{Failed, Sink};
 use sink_text::write_all;
 use station_reader::{KeyText, StationFault};
@@ -20,78 +22,81 @@ pub enum Obstacle {
     Faulty(StationFault),
 }
 
-// Writes a text and ends with it.
-fn end_one<K: Sink>(out: &mut K, text: &[u8]) -> Status
-    ensures { Answers Station result (K.state out.old) (K.state out.new) text.now }
+// Writes two texts.
+fn write_two<K: Sink>(out: &mut K, first: &[u8], second: &[u8]) -> Result<(), Failed>
+    ensures ok { OnOk result (WritesAll (K.state out.old) (K.state out.new) (first.now ++ second.now)) }
+    ensures err { OnErr result (WritesFront (K.state out.old) (K.state out.new) (first.now ++ second.now)) }
 {
-    match write_all(out, text) {
-        Ok(()) => Status::Station,
-        Err(Failed) => Status::WriteFault,
-    }
+    write_all(out, first)?;
+    write_all(out, second)
 }
 
-// Writes two texts and ends with them.
-fn end_two<K: Sink>(out: &mut K, first: &[u8], second: &[u8]) -> Status
-    ensures { Answers Station result (K.state out.old) (K.state out.new) (first.now ++ second.now) }
+// Writes three texts.
+fn write_three<K: Sink>(
+    out: &mut K,
+    first: &[u8],
+    second: &[u8],
+    third: &[u8],
+) -> Result<(), Failed>
+    ensures ok { OnOk result (WritesAll (K.state out.old) (K.state out.new) (first.now ++ (second.now ++ third.now))) }
+    ensures err { OnErr result (WritesFront (K.state out.old) (K.state out.new) (first.now ++ (second.now ++ third.now))) }
 {
-    match write_all(out, first) {
-        Ok(()) => end_one(out, second),
-        Err(Failed) => Status::WriteFault,
-    }
+    write_all(out, first)?;
+    write_two(out, second, third)
 }
 
-// Writes three texts and ends with them.
-fn end_three<K: Sink>(out: &mut K, first: &[u8], second: &[u8], third: &[u8]) -> Status
-    ensures { Answers Station result (K.state out.old) (K.state out.new) (first.now ++ (second.now ++ third.now)) }
+// Writes the status line of a fault at a key, which may be long.
+fn write_at_key<K: Sink>(front: &[u8], key: &KeyText, out: &mut K) -> Result<(), Failed>
+    ensures ok { OnOk result (WritesAll (K.state out.old) (K.state out.new) (front.now ++ (key.now ++ codes "\n"))) }
+    ensures err { OnErr result (WritesFront (K.state out.old) (K.state out.new) (front.now ++ (key.now ++ codes "\n"))) }
 {
-    match write_all(out, first) {
-        Ok(()) => end_two(out, second, third),
-        Err(Failed) => Status::WriteFault,
-    }
+    write_three(out, front, key.bytes(), b"\n")
 }
 
-// The status line of a fault at a key, which may be long.
-fn end_at_key<K: Sink>(front: &[u8], key: &KeyText, out: &mut K) -> Status
-    ensures { Answers Station result (K.state out.old) (K.state out.new) (front.now ++ (key.now ++ codes "\n")) }
+// Writes the status line of a key of which there are too many.
+fn write_at_many<K: Sink>(key: &KeyText, count: u64, out: &mut K) -> Result<(), Failed>
+    ensures ok { OnOk result (WritesAll (K.state out.old) (K.state out.new) (many_line key.now count)) }
+    ensures err { OnErr result (WritesFront (K.state out.old) (K.state out.new) (many_line key.now count)) }
 {
-    end_three(out, front, key.bytes(), b"\n")
+    let text = count_text(count);
+    write_three(out, b"status 3 station many ", key.bytes(), text.as_slice())
 }
 
-// The status line of a key of which there are too many, with a text of their number.
-fn end_at_many<K: Sink>(key: &KeyText, count: &[u8], out: &mut K) -> Status
-    ensures { Answers Station result (K.state out.old) (K.state out.new)
-        (codes "status 3 station many " ++ (key.now ++ count.now)) }
-{
-    end_three(out, b"status 3 station many ", key.bytes(), count)
-}
-
-fn end_with_many<K: Sink>(key: &KeyText, count: u64, out: &mut K) -> Status
-    ensures { Answers Station result (K.state out.old) (K.state out.new) (many_line key.now count) }
-{
-    end_at_many(key, count_text(count).as_slice(), out)
-}
-
-// Writes the status line of a station with a fault.
-fn finish_faulty<K: Sink>(fault: &StationFault, out: &mut K) -> Status
-    ensures { IsNamed fault.now → Answers Station result (K.state out.old) (K.state out.new) (station_line fault.now) }
+// Writes the status line of a station with a fault that a status line names.
+fn write_fault<K: Sink>(fault: &StationFault, out: &mut K) -> Result<(), Failed>
+    ensures ok { OnOk result (WritesAll (K.state out.old) (K.state out.new) (station_line fault.now)) }
+    ensures err { OnErr result (WritesFront (K.state out.old) (K.state out.new) (station_line fault.now)) }
 {
     match fault {
-        StationFault::NotToml => end_one(out, b"status 3 station toml\n"),
-        StationFault::UnknownKey { key } => end_at_key(b"status 3 station unknown ", key, out),
-        StationFault::Missing { key } => end_at_key(b"status 3 station missing ", key, out),
-        StationFault::Range { key } => end_at_key(b"status 3 station range ", key, out),
-        StationFault::TooMany { key, count } => end_with_many(key, *count, out),
-        StationFault::Memory => finish(Ending::NoMemory, out),
+        StationFault::NotToml => write_all(out, b"status 3 station toml\n"),
+        StationFault::UnknownKey { key } => write_at_key(b"status 3 station unknown ", key, out),
+        StationFault::Missing { key } => write_at_key(b"status 3 station missing ", key, out),
+        StationFault::Range { key } => write_at_key(b"status 3 station range ", key, out),
+        StationFault::TooMany { key, count } => write_at_many(key, *count, out),
+        // No obstacle has this fault.
+        StationFault::Memory => Ok(()),
     }
 }
 
-/// Writes the status line of a run that an obstacle ends. The answer is its status, or a write fault.
-pub fn finish_at<K: Sink>(obstacle: &Obstacle, out: &mut K) -> Status
-    ensures { IsTold obstacle.now →
-        Answers (status_at obstacle.now) result (K.state out.old) (K.state out.new) (line_at obstacle.now) }
+// Ends with the status line of a station with a fault.
+fn finish_faulty<K: Sink>(fault: StationFault, out: &mut K) -> Report
+    ensures answers { Answers Station (status_in result) (K.state out.old) (K.state out.new) (station_line fault) }
+    ensures reports { Reports result (K.state out.old) (K.state out.new) }
+{
+    match write_fault(&fault, out) {
+        Ok(()) => Report::Refused(fault),
+        Err(Failed) => Report::Unwritten,
+    }
+}
+
+/// Writes the status line of a run that an obstacle ends. The answer is the obstacle, or that a write has failed.
+pub fn finish_at<K: Sink>(obstacle: Obstacle, out: &mut K) -> Report
+    ensures answers { IsTold obstacle →
+        Answers (status_at obstacle) (status_in result) (K.state out.old) (K.state out.new) (line_at obstacle) }
+    ensures reports { Reports result (K.state out.old) (K.state out.new) }
 {
     match obstacle {
-        Obstacle::Ends(ending) => finish(*ending, out),
+        Obstacle::Ends(ending) => finish(ending, out),
         Obstacle::Faulty(fault) => finish_faulty(fault, out),
     }
 }

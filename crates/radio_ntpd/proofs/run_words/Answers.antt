@@ -2,6 +2,7 @@
 use Rattle.std.proofs.Common.{◌≡◌, ◌∙◌, ℕ, List, map, ap, refl, sym, subst, inl, inr, arith, rules}
 use Rattle.std.specs.String.{string_bytes}
 use Rattle.file_commands.specs.Effects.{effect_of}
+use Rattle.file_commands.specs.Reports.{status_in}
 use Rattle.radio_engine.specs.Run.{IsRun}
 use denote.Param.Object.{read_made}
 use Rattle.tick_units.specs.declared.marks.Plan.TheVariants.{Dcf, Msf, Wwvb}
@@ -32,8 +33,8 @@ loop-init g c = none_yet _ _ (search rules)
 pub loop-preserved : goal.loop-preserved
 loop-preserved g c = round _ c.loop.counter _ (c.in_ok-put_in_rack-3.ensures _ (c.in_ok-put_in_rack-2.ensures _ (c.in_ok-put_in_rack.ensures _ c.loop.invariant)))
 
-pub run_station-requires-clause-rack : goal.run_station-requires-clause-rack
-run_station-requires-clause-rack g c κs within =
+pub run_to_outcome-requires-clause-rack : goal.run_to_outcome-requires-clause-rack
+run_to_outcome-requires-clause-rack g c κs within =
     let whole : c.loop.counter ≡ 4 = omega arith in
     let has = subst (λ n. HasOfEach (λ b h. (own-1.entry b.vtable).1.stands_for b.value h) (λ _. n) c.loop.rack.items) whole c.loop.invariant in
     let rack = rack_of (λ b h. (own-1.entry b.vtable).1.stands_for b.value h) _ has in
@@ -41,6 +42,8 @@ run_station-requires-clause-rack g c κs within =
 
 pub returns : goal.returns
 returns g c =
-    let same : map (λ t. t.now) c.as_slice.result.now ≡ map (λ w. string_bytes w) c.args.words.now = ap (λ ts. map (λ t. t.now) ts) c.as_slice.ensures.value ∙ c.in_ok-texts.ensures in
-    subst (λ (words : List (List ℕ)). IsRun words (effect_of (g.O.Outside.state c.args.outside.now) (g.O.Outside.state c.run_station.new.outside) (g.K.Sink.state c.args.out.now) (g.K.Sink.state c.run_station.new.out) c.run_station.result)) same
-    (record { refused = c.run_station.ensures.refused; runs = c.run_station.ensures.runs; complete = c.run_station.ensures.complete })
+    let same : map (λ t. t.now) c.as_slice.result.now ≡ map (λ w. string_bytes w) c.args.words.now = ap (λ ts. map (λ t. t.now) ts) c.as_slice.ensures.value ∙ c.in_ok-texts.ensures in (
+      subst (λ (words : List (List ℕ)). IsRun words (effect_of (g.O.Outside.state c.args.outside.now) (g.O.Outside.state c.run_to_outcome.new.outside) (g.K.Sink.state c.args.out.now) (g.K.Sink.state c.run_to_outcome.new.out) (status_in c.run_to_outcome.result.report))) same
+          (record { refused = c.run_to_outcome.ensures.refused; runs = c.run_to_outcome.ensures.runs; complete = c.run_to_outcome.ensures.complete }),
+      c.run_to_outcome.ensures.reports,
+    )

@@ -1,15 +1,24 @@
 -- What the search leaves open of `decode::decode_with`.
 use Rattle.std.proofs.Common.{subst}
 use Rattle.file_commands.specs.Endings.{status_of, status_line}
+use Rattle.file_commands.specs.Reports.{status_in}
 use Rattle.file_commands.specs.Writing.{Answers}
 use Rattle.file_commands.specs.declared.ending.Ending.{Ending}
 use Rattle.file_commands.proofs.DecodingLaws.{decoded_none, decodes_after, decodes_stopped}
+use Rattle.file_commands.proofs.ReportLaws.{reports_ended, reports_stopped}
 use Rattle.file_commands.proofs.decode.decode_with.Goals as goal
 
 pub returns-in-Ok-clause-decodes : goal.returns-in-Ok-clause-decodes
 returns-in-Ok-clause-decodes g c = λ plan h. decodes_after _ plan c.read_lines.new.taker _ _ _ _ _ c.in-Ok.end _
     (c.in-Ok.ensures.ends plan (decoded_none _ _ plan (c.new-decoder.ensures.start plan 0 h)))
-    (subst (λ (e : Ending). Answers (status_of e) c.finish.result (g.K.Sink.state c.read_lines.new.out) (g.K.Sink.state c.finish.new.out) (status_line e)) c.ending_at.ensures c.finish.ensures)
+    (subst (λ (e : Ending). Answers (status_of e) (status_in c.finish.result) (g.K.Sink.state c.read_lines.new.out) (g.K.Sink.state c.finish.new.out) (status_line e)) c.ending_at.ensures c.finish.ensures.answers)
 
 pub returns-clause-decodes : goal.returns-clause-decodes
 returns-clause-decodes g c = λ plan h. decodes_stopped plan _ _ _ _ (c.in-Err.ensures.ends plan (decoded_none _ _ plan (c.new-decoder.ensures.start plan 0 h)))
+
+pub returns-in-Ok-clause-reports : goal.returns-in-Ok-clause-reports
+returns-in-Ok-clause-reports g c = λ plan h. reports_ended _ _ _ _ _ _ _ c.in-Ok.end c.finish.result
+    (c.in-Ok.ensures.ends plan (decoded_none _ _ plan (c.new-decoder.ensures.start plan 0 h))) c.finish.ensures.reports
+
+pub returns-clause-reports : goal.returns-clause-reports
+returns-clause-reports g c = λ plan h. reports_stopped _ _ _ _ _ _ (c.in-Err.ensures.ends plan (decoded_none _ _ plan (c.new-decoder.ensures.start plan 0 h)))

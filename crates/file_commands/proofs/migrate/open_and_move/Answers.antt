@@ -5,15 +5,15 @@ use Rattle.feed_link.proofs.OpeningLaws.{opened_once, out_after}
 use Rattle.file_commands.proofs.migrate.open_and_move.Goals as goal
 
 pub give_back_log-requires : goal.give_back_log-requires
-give_back_log-requires g c = out_after _ _ _ _ _ _ c.in-Ok.ensures.opened c.in-Ok.ensures.number c.move_whole-status.ensures.number
+give_back_log-requires g c = out_after _ _ _ _ _ _ c.in-Ok.ensures.opened c.in-Ok.ensures.number c.move_whole-report.ensures.number
 
 pub returns-clause-tried : goal.returns-clause-tried
 returns-clause-tried g c = λ of h.
     let was = g.O.Log.Source.state c.in-Ok.journal in
-    let is = g.O.Log.Source.state c.move_whole-status.new.journal in
+    let is = g.O.Log.Source.state c.move_whole-report.new.journal in
     inr (record {
       opened = was;
       back = is;
-      opens = opened_once _ _ _ (log_visit c.args.name.now was is) _ _ c.in-Ok.ensures.opened c.in-Ok.ensures.number c.in-Ok.ensures.cause.kept c.move_whole-status.ensures.number c.give_back_log.ensures.back;
-      runs = c.move_whole-status.ensures.runs of h;
+      opens = opened_once _ _ _ (log_visit c.args.name.now was is) _ _ c.in-Ok.ensures.opened c.in-Ok.ensures.number c.in-Ok.ensures.cause.kept c.move_whole-report.ensures.number c.give_back_log.ensures.back;
+      runs = c.move_whole-report.ensures.runs of h;
     })

@@ -5,15 +5,15 @@ use Rattle.feed_link.proofs.OpeningLaws.{opened_once, out_after}
 use Rattle.replay_command.proofs.replay.open_and_play.Goals as goal
 
 pub give_back_log-requires : goal.give_back_log-requires
-give_back_log-requires g c = out_after _ _ _ _ _ _ c.in-Ok.ensures.opened c.in-Ok.ensures.number c.play-status.ensures.number
+give_back_log-requires g c = out_after _ _ _ _ _ _ c.in-Ok.ensures.opened c.in-Ok.ensures.number c.play-report.ensures.number
 
 pub returns-clause-tried : goal.returns-clause-tried
 returns-clause-tried g c = λ station h.
     let was = g.O.Log.Source.state c.in-Ok.script in
-    let is = g.O.Log.Source.state c.play-status.new.script in
+    let is = g.O.Log.Source.state c.play-report.new.script in
     inr (record {
       opened = was;
       back = is;
-      opens = opened_once _ _ _ (log_visit c.args.name.now was is) _ _ c.in-Ok.ensures.opened c.in-Ok.ensures.number c.in-Ok.ensures.cause.kept c.play-status.ensures.number c.give_back_log.ensures.back;
-      runs = c.play-status.ensures.replays station h;
+      opens = opened_once _ _ _ (log_visit c.args.name.now was is) _ _ c.in-Ok.ensures.opened c.in-Ok.ensures.number c.in-Ok.ensures.cause.kept c.play-report.ensures.number c.give_back_log.ensures.back;
+      runs = c.play-report.ensures.replays station h;
     })

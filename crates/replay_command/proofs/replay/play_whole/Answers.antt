@@ -4,13 +4,20 @@ use Rattle.script_player.specs.Replay.{case_of}
 use Rattle.replay_command.specs.Playing.{script_taker, script_way}
 use Rattle.replay_command.specs.Replaying.{replay_ending, script_of}
 use Rattle.file_commands.proofs.LineFileLaws.{runs_after, runs_stopped}
+use Rattle.file_commands.proofs.ReportLaws.{reports_ended, reports_stopped}
 use Rattle.replay_command.proofs.replay.play_whole.Goals as goal
 
 pub returns-in-Ok-clause-replays : goal.returns-in-Ok-clause-replays
 returns-in-Ok-clause-replays g c = λ station h. runs_after (script_way _ (case_of station c.args.limit)) (script_taker c.read_lines.new.taker) _ _ _ _ _ c.in-Ok.end _ c.page-page.result c.replay_ending-ending.result
     (c.in-Ok.ensures.ends (case_of station c.args.limit) h) (λ lines bad played. c.page-page.ensures (case_of station c.args.limit) lines played)
     (λ lines bad played. c.replay_ending-ending.ensures ∙ ap (λ (b : Bool). replay_ending c.in-Ok.end b c.args.limit) (c.is_full.ensures (case_of station c.args.limit) lines played))
-    c.finish_page.ensures
+    c.finish_page.ensures.answers
 
 pub returns-in-Err-clause-replays : goal.returns-in-Err-clause-replays
 returns-in-Err-clause-replays g c = λ station h. runs_stopped (script_of c.args.limit station) _ _ _ _ (c.in-Err.ensures.ends (case_of station c.args.limit) h)
+
+pub returns-in-Ok-clause-reports : goal.returns-in-Ok-clause-reports
+returns-in-Ok-clause-reports g c = λ station h. reports_ended _ _ _ _ _ _ _ c.in-Ok.end c.finish_page.result (c.in-Ok.ensures.ends (case_of station c.args.limit) h) c.finish_page.ensures.reports
+
+pub returns-in-Err-clause-reports : goal.returns-in-Err-clause-reports
+returns-in-Err-clause-reports g c = λ station h. reports_stopped _ _ _ _ _ _ (c.in-Err.ensures.ends (case_of station c.args.limit) h)

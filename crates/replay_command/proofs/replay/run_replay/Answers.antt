@@ -16,7 +16,10 @@ returns-in-Ok-prepare-clause-runs g c =
     let opens = subst (λ (end : FileEnd). OpensStation c.args.station.now (g.O.Outside.state c.args.outside.now) (g.O.Outside.state c.open_station.new.outside) end c.open_station.new.text.items) judged.0 c.in-Ok-open_station.ensures.tried in
     inr (file_tried Script (script_of c.args.limit) c.args.station.now c.args.script.now _ _ _ _ _ _ _ judged.1.0 opens (subst (λ (b : List ℕ). Says b judged.1.0) c.as_slice.ensures.value judged.1.1) (c.open_and_play.ensures.tried judged.1.0 judged.1.2))
 
-pub returns-clause-runs : goal.returns-clause-runs
-returns-clause-runs g c =
+pub returns-in-Err-clause-runs : goal.returns-in-Err-clause-runs
+returns-in-Err-clause-runs g c =
     let cause = subst (λ (b : List ℕ). IsObstacle c.in-Ok-open_station.end b c.in-Err.obstacle) c.as_slice.ensures.value c.in-Err.ensures.judged in
-    inr (ends_at Script (script_of c.args.limit) c.args.station.now c.args.script.now _ _ _ _ _ c.in-Ok-open_station.end _ c.in-Err.obstacle c.in-Ok-open_station.ensures.tried cause (c.finish_at.ensures (told_by c.in-Ok-open_station.end _ c.in-Err.obstacle cause)))
+    inr (ends_at Script (script_of c.args.limit) c.args.station.now c.args.script.now _ _ _ _ _ c.in-Ok-open_station.end _ c.in-Err.obstacle c.in-Ok-open_station.ensures.tried cause (c.finish_at.ensures.answers (told_by c.in-Ok-open_station.end _ c.in-Err.obstacle cause)))
+
+pub returns-in-Ok-prepare-clause-reports : goal.returns-in-Ok-prepare-clause-reports
+returns-in-Ok-prepare-clause-reports g c = (let judged = c.in-Ok-prepare.ensures.judged in c.open_and_play.ensures.reports judged.1.0 judged.1.2)

@@ -4,26 +4,28 @@ use Rattle.clock_page.specs.Page.{PageFields}
 use Rattle.station_report.specs.DrillScaffold.{feed_lines}
 use Rattle.file_commands.specs.Endings.{status_of, status_line}
 use Rattle.file_commands.specs.Text.{page_text}
+use Rattle.file_commands.specs.Reports.{status_in}
 use Rattle.file_commands.specs.Writing.{Answers}
 use Rattle.file_commands.specs.declared.ending.status.Status.TheVariants.{WriteFault}
+use Rattle.file_commands.proofs.ReportLaws.{reports_more, reports_none}
 use Rattle.file_commands.proofs.WritingLaws.{answers_front, answers_more}
 use Rattle.station_report.proofs.drill_text.finish_drilled.Goals as goal
 
-pub returns-in-Ok : goal.returns-in-Ok
-returns-in-Ok g c =
+pub returns-in-Ok-clause-finishes : goal.returns-in-Ok-clause-finishes
+returns-in-Ok-clause-finishes g c =
     let done = c.args.done.now in
     let due = c.ending_of-ending.result in
-    let page = subst (λ (p : PageFields). Answers (status_of due) c.finish_page.result (g.K.Sink.state c.tell_feeds.new.out) (g.K.Sink.state c.finish_page.new.out) (page_text p ++ status_line due)) c.page.ensures c.finish_page.ensures in
+    let page = subst (λ (p : PageFields). Answers (status_of due) (status_in c.finish_page.result) (g.K.Sink.state c.tell_feeds.new.out) (g.K.Sink.state c.finish_page.new.out) (page_text p ++ status_line due)) c.page.ensures c.finish_page.ensures.answers in
     record {
       due = due;
       cause = c.ending_of-ending.ensures;
-      written = subst (λ t. Answers (status_of due) c.finish_page.result (g.K.Sink.state c.args.out.now) (g.K.Sink.state c.finish_page.new.out) t)
+      written = subst (λ t. Answers (status_of due) (status_in c.finish_page.result) (g.K.Sink.state c.args.out.now) (g.K.Sink.state c.finish_page.new.out) t)
           (sym (append_assoc (feed_lines done.journal.entries) _ (status_line due)))
           (answers_more (status_of due) _ _ _ _ _ _ c.in-Ok.ensures.ok page);
     }
 
-pub returns-in-Err : goal.returns-in-Err
-returns-in-Err g c =
+pub returns-in-Err-clause-finishes : goal.returns-in-Err-clause-finishes
+returns-in-Err-clause-finishes g c =
     let done = c.args.done.now in
     let due = c.ending_of-ending.result in
     record {
@@ -33,3 +35,9 @@ returns-in-Err g c =
           (sym (append_assoc (feed_lines done.journal.entries) _ (status_line due)))
           (answers_front (status_of due) _ _ _ _ c.in-Err.ensures.err);
     }
+
+pub returns-in-Ok-clause-reports : goal.returns-in-Ok-clause-reports
+returns-in-Ok-clause-reports g c = reports_more c.finish_page.result _ _ _ _ c.in-Ok.ensures.ok c.finish_page.ensures.reports
+
+pub returns-in-Err-clause-reports : goal.returns-in-Err-clause-reports
+returns-in-Err-clause-reports g c = reports_none _ _ _ c.in-Err.ensures.err

@@ -4,12 +4,19 @@ use Rattle.file_commands.specs.Endings.{status_of, status_line}
 use Rattle.file_commands.specs.Text.{page_text}
 use Rattle.sink_text.specs.Writing.{WritesAll, WritesFront}
 use Rattle.file_commands.proofs.WritingLaws.{answers_more, answers_front}
+use Rattle.file_commands.proofs.ReportLaws.{reports_more, reports_none}
 use Rattle.file_commands.proofs.ending.page.finish_page.Goals as goal
 
-pub returns-in-Ok : goal.returns-in-Ok
-returns-in-Ok g c = answers_more (status_of c.args.ending) _ _ _ _ (page_text c.args.page.now) (status_line c.args.ending)
-    (subst (λ (t : List ℕ). WritesAll (g.K.Sink.state c.args.out.now) (g.K.Sink.state c.write_all.new.out) t) c.write_page_line-length.ensures.text c.in-Ok.ensures.ok) c.finish.ensures
+pub returns-in-Ok-clause-answers : goal.returns-in-Ok-clause-answers
+returns-in-Ok-clause-answers g c = answers_more (status_of c.args.ending) _ _ _ _ (page_text c.args.page.now) (status_line c.args.ending)
+    (subst (λ (t : List ℕ). WritesAll (g.K.Sink.state c.args.out.now) (g.K.Sink.state c.write_all.new.out) t) c.write_page_line-length.ensures.text c.in-Ok.ensures.ok) c.finish.ensures.answers
 
-pub returns-in-Err : goal.returns-in-Err
-returns-in-Err g c = answers_front (status_of c.args.ending) _ _ (page_text c.args.page.now) (status_line c.args.ending)
+pub returns-in-Err-clause-answers : goal.returns-in-Err-clause-answers
+returns-in-Err-clause-answers g c = answers_front (status_of c.args.ending) _ _ (page_text c.args.page.now) (status_line c.args.ending)
     (subst (λ (t : List ℕ). WritesFront (g.K.Sink.state c.args.out.now) (g.K.Sink.state c.write_all.new.out) t) c.write_page_line-length.ensures.text c.in-Err.ensures.err)
+
+pub returns-in-Ok-clause-reports : goal.returns-in-Ok-clause-reports
+returns-in-Ok-clause-reports g c = reports_more c.finish.result _ _ _ _ c.in-Ok.ensures.ok c.finish.ensures.reports
+
+pub returns-in-Err-clause-reports : goal.returns-in-Err-clause-reports
+returns-in-Err-clause-reports g c = reports_none _ _ _ c.in-Err.ensures.err

@@ -1,0 +1,18 @@
+-- Where no memory is found for what the command is handed, nothing was opened.
+use Rattle.std.proofs.Common.{subst}
+use Rattle.feed_link.specs.Told.{SinkState}
+use Rattle.file_commands.specs.Endings.{status_of, status_line}
+use Rattle.file_commands.specs.Reports.{Reports, status_in}
+use Rattle.file_commands.specs.Writing.{Answers}
+use Rattle.file_commands.specs.declared.ending.Ending.TheVariants.{NoMemory}
+use Rattle.radio_engine.proofs.RunLaws.{run_unbegun}
+use Rattle.radio_ntpd.proofs.run_given.Goals as goal
+
+pub returns-in-Err-clause-run : goal.returns-in-Err-clause-run
+returns-in-Err-clause-run g c = rw c.in-Ok.is (run_unbegun _ _ (record {
+  unchanged = c.in-Err.ensures.0;
+  written = subst (λ (s : SinkState). Answers (status_of NoMemory) (status_in c.end_without_memory-in-Err.result.report) s (g.K.Sink.state c.end_without_memory-in-Err.new.out) (status_line NoMemory)) c.in-Err.ensures.1 c.end_without_memory-in-Err.ensures.answers;
+}))
+
+pub returns-in-Err-clause-reports : goal.returns-in-Err-clause-reports
+returns-in-Err-clause-reports g c = subst (λ (s : SinkState). Reports c.end_without_memory-in-Err.result.report s (g.K.Sink.state c.end_without_memory-in-Err.new.out)) c.in-Err.ensures.1 c.end_without_memory-in-Err.ensures.reports
