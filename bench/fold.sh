@@ -7,9 +7,9 @@
 set -eu
 entries=${1:-200}
 . "$(dirname "$0")/small_program.sh"
-bring "$work" tick_units feed_link journal_entry clock_filter select_core cluster_core clock_page system_fold
+bring "$work" tick_units outside_traits journal_entry clock_filter select_core cluster_core clock_page system_fold
 . "$top/bench/fold_program.sh"
-echo "fold_loop: tick_units feed_link journal_entry clock_page system_fold" >> "$work/crates.txt"
+echo "fold_loop: tick_units outside_traits journal_entry clock_page system_fold" >> "$work/crates.txt"
 mv "$work/loop" "$work/crates/fold_loop"
 build "$work/crates/fold_loop" 1 0 1
 

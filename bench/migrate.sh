@@ -13,8 +13,8 @@ runs=${3:-3}
 . "$(dirname "$0")/built.sh"
 . "$(dirname "$0")/small_program.sh"
 
-bring "$work" tick_units feed_link journal_entry clock_filter select_core cluster_core clock_page system_fold
-echo "fold_loop: tick_units feed_link journal_entry clock_page system_fold" >> "$work/crates.txt"
+bring "$work" tick_units outside_traits journal_entry clock_filter select_core cluster_core clock_page system_fold
+echo "fold_loop: tick_units outside_traits journal_entry clock_page system_fold" >> "$work/crates.txt"
 . "$top/bench/fold_program.sh"
 mv "$work/loop" "$work/crates/fold_loop"
 build "$work/crates/fold_loop" 1 0 1

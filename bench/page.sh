@@ -8,12 +8,12 @@
 set -eu
 count=${1:-200000}
 . "$(dirname "$0")/small_program.sh"
-crates="tick_units feed_link journal_entry clock_filter select_core cluster_core clock_page system_fold page_cell"
+crates="tick_units outside_traits journal_entry clock_filter select_core cluster_core clock_page system_fold page_cell"
 loop="$work/crates/page_loop"
 bring "$work" $crates
 mkdir -p "$loop/src" "$loop/proofs/Writer/publish" "$loop/proofs/write_all" "$loop/proofs/read_all" "$loop/proofs/fold_often" \
     "$loop/proofs/of_one_feed"
-echo "page_loop: tick_units feed_link journal_entry clock_page system_fold page_cell atomic_table" >> "$work/crates.txt"
+echo "page_loop: tick_units outside_traits journal_entry clock_page system_fold page_cell atomic_table" >> "$work/crates.txt"
 cp "$top/bench/programs/page_loop.rt.in" "$loop/src/main.rt"
 cat > "$loop/proofs/Writer/publish/Answers.antt" <<'ANTT'
 use Rattle.std.proofs.Common.{◌≡◌, ◌<◌, ℕ, length, rules, sym, ap, ◌∙◌, subst, arith}
@@ -22,8 +22,8 @@ use Rattle.system_fold.proofs.StandingLaws.{feeds-length}
 use Rattle.system_fold.specs.declared.feed.Feed.{Feed}
 use Rattle.page_loop.proofs.Writer.publish.Goals as goal
 
-pub step-requires-clause-lawful : goal.step-requires-clause-lawful
-step-requires-clause-lawful c =
+pub step-requires-clause-valid : goal.step-requires-clause-valid
+step-requires-clause-valid c =
     let w = c.self.inside in
     let stands = c.self.invariant.1 in
     let feeds = ap (λ (fs : List Feed). length fs) stands.feeds ∙ feeds-length w.baton.view.settings w.baton.view.list in
@@ -49,8 +49,8 @@ cat > "$loop/proofs/of_one_feed/Answers.antt" <<'ANTT'
 use Rattle.std.proofs.Common.{rules, arith}
 use Rattle.page_loop.proofs.of_one_feed.Goals as goal
 
-pub returns-clause-lawful : goal.returns-clause-lawful
-returns-clause-lawful c = record { milliseconds = 1000; least = omega arith; most = omega arith; bound = search rules }
+pub returns-clause-valid : goal.returns-clause-valid
+returns-clause-valid c = record { milliseconds = 1000; least = omega arith; most = omega arith; bound = search rules }
 ANTT
 cat > "$loop/proofs/fold_often/Invariants.antt" <<'ANTT'
 use Rattle.std.proofs.Common.{◌≤◌, List, length}
@@ -74,8 +74,8 @@ use Rattle.system_fold.specs.declared.feed.Feed.{Feed}
 use Rattle.system_fold.proofs.StandingLaws.{feeds-length}
 use Rattle.page_loop.proofs.fold_often.Goals as goal
 
-pub step-requires-clause-lawful : goal.step-requires-clause-lawful
-step-requires-clause-lawful c =
+pub step-requires-clause-valid : goal.step-requires-clause-valid
+step-requires-clause-valid c =
     let i = c.loop-i.invariant in
     let feeds = ap (λ (fs : List Feed). length fs) i.stands.feeds ∙ feeds-length c.args.settings.now i.journal in
     let some = c.requires.some in

@@ -8,10 +8,10 @@
 set -eu
 turns=${1:-2000}
 . "$(dirname "$0")/small_program.sh"
-bring "$work" tick_units feed_link host_links journal_entry clock_filter select_core cluster_core clock_page system_fold ntp_packet packet_auth \
+bring "$work" tick_units outside_traits host_links journal_entry clock_filter select_core cluster_core clock_page system_fold ntp_packet packet_auth \
     reply_core kiss_gate sealed_reply page_cell responder
 mkdir -p "$work/crates/turn_loop/src" "$work/crates/turn_loop/proofs/settings_of_none"
-echo "turn_loop: tick_units feed_link host_links journal_entry system_fold packet_auth kiss_gate page_cell responder" >> "$work/crates.txt"
+echo "turn_loop: tick_units outside_traits host_links journal_entry system_fold packet_auth kiss_gate page_cell responder" >> "$work/crates.txt"
 cp "$top/bench/programs/turn_loop.rt.in" "$work/crates/turn_loop/src/main.rt"
 cat > "$work/crates/turn_loop/proofs/settings_of_none/Answers.antt" <<'ANTT'
 use Rattle.std.proofs.Common.{rules, arith}

@@ -1,7 +1,6 @@
 """How a command ends when it can't be done: exit statuses, `Fault`, and the sentences on what the
 program or the host says."""
 
-
 DONE = 0
 NOT_WELL = 1  # what was asked for was done, and something isn't well
 CRITICAL = 2  # `status`, also with `--nagios`: nobody gets the time

@@ -1,6 +1,6 @@
 //! What UTC's calendar and clock show at an absolute second.
 ghost use Rattle.std.specs.Prelude.{◌≡◌, ◌%◌, ◌<◌, ◌≤◌, pos};
-ghost use Rattle.tick_units.specs.Years.{first_told, end_of_told};
+ghost use Rattle.tick_units.specs.Years.{first_supported, end_of_supported};
 ghost use Rattle.civil_minute.specs.Dates.{weekday_of};
 ghost use Rattle.civil_minute.specs.Months.{begins_month, month_after};
 ghost use Rattle.civil_minute.specs.Seconds.{civil_of, day_of_year_of, Shows};
@@ -20,8 +20,8 @@ pub struct CivilMinute {
 
 /// The weekday of a second's UTC date, Monday 1 to Sunday 7.
 pub fn weekday(second: u64) -> u8
-    requires from { first_told ≤ second }
-    requires below { second < end_of_told }
+    requires from { first_supported ≤ second }
+    requires below { second < end_of_supported }
     ensures { result ≡ weekday_of second }
 {
     date_at(second).weekday().to_monday_one_offset() as u8
@@ -29,7 +29,7 @@ pub fn weekday(second: u64) -> u8
 
 /// Whether a month of UTC begins at the second, which may lie as far back as 1900-01-01.
 pub fn begins_month(second: u64) -> bool
-    requires below { second < end_of_told }
+    requires below { second < end_of_supported }
     ensures { result ≡ begins_month second }
 {
     second % DAY == 0 && date_at(second).day() == 1
@@ -37,8 +37,8 @@ pub fn begins_month(second: u64) -> bool
 
 /// The second at which the next month of UTC begins.
 pub fn next_month_start(second: u64) -> u64
-    requires from { first_told ≤ second }
-    requires below { second < end_of_told }
+    requires from { first_supported ≤ second }
+    requires below { second < end_of_supported }
     ensures value { result ≡ month_after second }
 
     // A later midnight.
@@ -55,8 +55,8 @@ pub fn next_month_start(second: u64) -> u64
 
 /// The minute in which a second lies, by UTC.
 pub fn civil_at(second: u64) -> CivilMinute
-    requires from { first_told ≤ second }
-    requires below { second < end_of_told }
+    requires from { first_supported ≤ second }
+    requires below { second < end_of_supported }
     ensures value { result ≡ civil_of second }
     ensures shows { Shows result second }
 
@@ -76,8 +76,8 @@ pub fn civil_at(second: u64) -> CivilMinute
 
 /// The day of the year of a second's UTC date, counted from 1.
 pub fn day_of_year(second: u64) -> u32
-    requires from { first_told ≤ second }
-    requires below { second < end_of_told }
+    requires from { first_supported ≤ second }
+    requires below { second < end_of_supported }
     ensures value { result ≡ day_of_year_of second }
     ensures least { 1 ≤ result }
     ensures most { result ≤ days_in_year (pos (civil_of second).year) }

@@ -6,11 +6,11 @@ use Rattle.std.proofs.lemmas.Int.{ints, clamps}
 use Rattle.std.proofs.lemmas.Nat.{pow_pos}
 use Rattle.std.proofs.Math.Nat.{div-eq_of_lt}
 use Rattle.std.proofs.lemmas.List.Elements.{All-head, All-tail, All-weaker}
-use Rattle.tick_units.specs.Samples.{IsLawful}
+use Rattle.tick_units.specs.Samples.{IsValid}
 use Rattle.tick_units.specs.Orders.{in_order}
 use Rattle.tick_units.specs.Units.{IsRate, ceil_div, floor_div, most_rate, phi}
 use Rattle.tick_units.proofs.OrderLaws.{in_order-all}
-use Rattle.clock_filter.specs.Bounds.{AreLawful, IsMeasured, IsTimely}
+use Rattle.clock_filter.specs.Bounds.{AreValid, IsMeasured, IsTimely}
 use Rattle.clock_filter.specs.Figures.{aged, figures_by, figures_of, newest_of, staged}
 use Rattle.clock_filter.specs.Held.{may_precede}
 use Rattle.clock_filter.specs.Rate.{earliest, latest, held_rate, rate_between, rate_of}
@@ -44,7 +44,7 @@ record IsAge (age : ℤ) : Type 0 where
   most : age ≤ℤ pos (2 ^ 36)
 
 age-small : (age : ℤ) → IsAge age → unsigned_abs age < 2 ^ 70
-age-small age lawful = let least = lawful.least in let most = lawful.most in omega (arith, ints)
+age-small age valid = let least = valid.least in let most = valid.most in omega (arith, ints)
 
 sum-least : (x y : ℤ) → pos 0 ≤ℤ x → pos 0 ≤ℤ y → pos 0 ≤ℤ (x +ℤ y)
 sum-least x y g h = omega (arith, ints)
@@ -55,14 +55,14 @@ HasLength x = pos 0 ≤ℤ x.sample.dispersion
 aged-by : (dispersion : ℤ) (drift : ℕ) → pos 0 ≤ℤ dispersion → IsAge (int_min (pos (2 ^ 36)) (dispersion +ℤ pos drift))
 aged-by dispersion drift least = record { least = omega (arith, ints, clamps); most = omega (arith, ints, clamps) }
 
-aged-lawful : (now : ℕ) (o : Option Taken) → IfSome o HasLength → IsAge (aged now o)
-aged-lawful now None lawful = record { least = omega (arith, ints); most = omega (arith, ints) }
-aged-lawful now (Some x) lawful = aged-by x.sample.dispersion (phi (now - x.at)) lawful
+aged-valid : (now : ℕ) (o : Option Taken) → IfSome o HasLength → IsAge (aged now o)
+aged-valid now None valid = record { least = omega (arith, ints); most = omega (arith, ints) }
+aged-valid now (Some x) valid = aged-by x.sample.dispersion (phi (now - x.at)) valid
 
-at-lawful : (taken : List Taken) (i : ℕ) → All HasLength taken → IfSome (slice_get taken i) HasLength
-at-lawful [] i all = tt
-at-lawful (x ∷ xs) zero all = All-head HasLength x xs all
-at-lawful (x ∷ xs) (suc i) all = at-lawful xs i (All-tail HasLength x xs all)
+at-valid : (taken : List Taken) (i : ℕ) → All HasLength taken → IfSome (slice_get taken i) HasLength
+at-valid [] i all = tt
+at-valid (x ∷ xs) zero all = All-head HasLength x xs all
+at-valid (x ∷ xs) (suc i) all = at-valid xs i (All-tail HasLength x xs all)
 
 within-most : (i : ℕ) (sum : ℤ) → Within i sum → sum ≤ℤ pos (2 ^ 36)
 within-most i sum within = omega (arith, ints)
@@ -72,17 +72,17 @@ record IsStaged (i : ℕ) (sum : ℤ) : Type 0 where
   within : Within i sum
 
 staged-by : (i : ℕ) (sum age : ℤ) → i < 8 → IsAge age → IsStaged i sum → IsStaged (i + 1) (sum +ℤ ceil_div age (2 ^ (i + 1)))
-staged-by i sum age few lawful before =
-    let half = half-least (2 ^ (i + 1)) age (pow_pos (i + 1)) lawful.least in
-    let small : unsigned_abs age < 2 ^ 70 = age-small age lawful in
-    record { least = sum-least sum (ceil_div age (2 ^ (i + 1))) before.least half; within = within-more i sum age few small lawful.most before.within }
+staged-by i sum age few valid before =
+    let half = half-least (2 ^ (i + 1)) age (pow_pos (i + 1)) valid.least in
+    let small : unsigned_abs age < 2 ^ 70 = age-small age valid in
+    record { least = sum-least sum (ceil_div age (2 ^ (i + 1))) before.least half; within = within-more i sum age few small valid.most before.within }
 
-staged-lawful : (i now : ℕ) (taken : List Taken) → i ≤ 8 → All HasLength taken → IsStaged i (staged i now taken)
+staged-valid : (i now : ℕ) (taken : List Taken) → i ≤ 8 → All HasLength taken → IsStaged i (staged i now taken)
 unfolding staged
-staged-lawful zero now taken few all = record { least = omega (arith, ints); within = within-none }
-staged-lawful (suc i) now taken few all =
-    let before = staged-lawful i now taken (omega arith) all in
-    let age = aged-lawful now (slice_get taken i) (at-lawful taken i all) in
+staged-valid zero now taken few all = record { least = omega (arith, ints); within = within-none }
+staged-valid (suc i) now taken few all =
+    let before = staged-valid i now taken (omega arith) all in
+    let age = aged-valid now (slice_get taken i) (at-valid taken i all) in
     subst (λ n. IsStaged n (staged n now taken)) (add-one i) (subst (IsStaged (i + 1)) (sym (staged-more i now taken)) (staged-by i (staged i now taken) (aged now (slice_get taken i)) (omega arith) age before))
 
 -- a rate is held to its bound
@@ -99,16 +99,16 @@ between-rate (Some a) (Some b) = by_test (nat_lt (b.at - a.at) 30000000)
     by_test false = held-rate (floor_div ((b.sample.offset -ℤ a.sample.offset) *ℤ pos (10 ^ 6)) (b.at - a.at))
 
 -- the figures of valid samples
-measured-by : (rate : ℤ) (held : List Taken) → IsRate rate → AreLawful held → IfSome (figures_by rate held) IsMeasured
+measured-by : (rate : ℤ) (held : List Taken) → IsRate rate → AreValid held → IfSome (figures_by rate held) IsMeasured
 measured-by rate [] bounded all = tt
 measured-by rate (best ∷ others) bounded all =
-    let first = All-head (λ x. IsLawful x.sample) best others all in
-    let lengths = All-weaker (λ x. IsLawful x.sample) HasLength (λ x h. h.dispersion.least) (best ∷ others) all in
-    let stages = staged-lawful 8 (newest_of (best ∷ others)) (best ∷ others) (omega arith) lengths in
+    let first = All-head (λ x. IsValid x.sample) best others all in
+    let lengths = All-weaker (λ x. IsValid x.sample) HasLength (λ x h. h.dispersion.least) (best ∷ others) all in
+    let stages = staged-valid 8 (newest_of (best ∷ others)) (best ∷ others) (omega arith) lengths in
     record { offset = first.offset; delay = first.delay; least = stages.least; most = within-most 8 _ stages.within; rate = bounded }
 
-pub measured : (taken : List Taken) → AreLawful taken → IfSome (figures_of taken) IsMeasured
-measured taken all = measured-by (rate_of taken) (in_order may_precede taken) (between-rate (earliest taken) (latest taken)) (in_order-all (λ x. IsLawful x.sample) may_precede taken all)
+pub measured : (taken : List Taken) → AreValid taken → IfSome (figures_of taken) IsMeasured
+measured taken all = measured-by (rate_of taken) (in_order may_precede taken) (between-rate (earliest taken) (latest taken)) (in_order-all (λ x. IsValid x.sample) may_precede taken all)
 
 -- the newest of samples that are from up to now
 newest-upto-by : (now : ℕ) (rate : ℤ) (held : List Taken) → All (λ x. x.at ≤ now) held → IfSome (figures_by rate held) (λ f. f.newest ≤ now)

@@ -28,11 +28,11 @@ unfolding steady_distance
 distance-long f long = rw long refl
 
 -- a drift that is added last
-drift-last : (told own jitter drift : ℤ) → ((told +ℤ own) +ℤ jitter) +ℤ drift ≡ ((told +ℤ own) +ℤ drift) +ℤ jitter
-drift-last told own jitter drift = omega (arith, ints)
+drift-last : (reported own jitter drift : ℤ) → ((reported +ℤ own) +ℤ jitter) +ℤ drift ≡ ((reported +ℤ own) +ℤ drift) +ℤ jitter
+drift-last reported own jitter drift = omega (arith, ints)
 
-drift-behind : (half told own jitter drift : ℤ) → (half +ℤ ((told +ℤ own) +ℤ jitter)) +ℤ drift ≡ half +ℤ (((told +ℤ own) +ℤ drift) +ℤ jitter)
-drift-behind half told own jitter drift = omega (arith, ints)
+drift-later : (half reported own jitter drift : ℤ) → (half +ℤ ((reported +ℤ own) +ℤ jitter)) +ℤ drift ≡ half +ℤ (((reported +ℤ own) +ℤ drift) +ℤ jitter)
+drift-later half reported own jitter drift = omega (arith, ints)
 
 pub dispersion-aged : (f : Figures) (now : ℕ) → unsigned_abs f.delay ≤ 2 ^ 68 → unsigned_abs f.dispersion ≤ 2 ^ 68 → steady_dispersion f +ℤ pos (phi (now - f.taken_at)) ≡ root_dispersion_of now f
 dispersion-aged f now delay dispersion =
@@ -42,7 +42,7 @@ dispersion-aged f now delay dispersion =
 pub distance-aged : (f : Figures) (now : ℕ) → unsigned_abs f.delay ≤ 2 ^ 68 → unsigned_abs f.dispersion ≤ 2 ^ 68 → steady_distance f +ℤ pos (phi (now - f.taken_at)) ≡ distance_of now f
 distance-aged f now delay dispersion =
     ap (λ (z : ℤ). z +ℤ pos (phi (now - f.taken_at))) (distance-short f (short-by f delay dispersion))
-    ∙ drift-behind (ceil_div (int_max (pos least_dispersion) (root_delay_of f)) 2) (pos (f.root_disp.0 * 65536)) f.dispersion (pos (root f.jitter2)) (pos (phi (now - f.taken_at)))
+    ∙ drift-later (ceil_div (int_max (pos least_dispersion) (root_delay_of f)) 2) (pos (f.root_disp.0 * 65536)) f.dispersion (pos (root f.jitter2)) (pos (phi (now - f.taken_at)))
 
 -- what is ready of the figures, and the drift
 pub dispersion-ready : (a f : Figures) (dispersion distance drift sum : ℤ) (now : ℕ) → a ≡ f → IsReady a dispersion distance → unsigned_abs f.delay ≤ 2 ^ 68 → unsigned_abs f.dispersion ≤ 2 ^ 68
@@ -64,15 +64,15 @@ half-of-two (negsuc a) two = absurd (omega (arith, ints))
 half-some : (z : ℤ) → pos 1 ≤ℤ ceil_div (int_max (pos least_dispersion) z) 2
 half-some z = half-of-two (int_max (pos least_dispersion) z) (omega (arith, ints, clamps))
 
-parts-least : (half : ℤ) (told : ℕ) (own : ℤ) (drift jitter : ℕ) → pos 1 ≤ℤ half → pos 0 ≤ℤ own → pos 1 ≤ℤ (half +ℤ (((pos told +ℤ own) +ℤ pos drift) +ℤ pos jitter))
-parts-least half told own drift jitter some least = omega (arith, ints)
+parts-least : (half : ℤ) (reported : ℕ) (own : ℤ) (drift jitter : ℕ) → pos 1 ≤ℤ half → pos 0 ≤ℤ own → pos 1 ≤ℤ (half +ℤ (((pos reported +ℤ own) +ℤ pos drift) +ℤ pos jitter))
+parts-least half reported own drift jitter some least = omega (arith, ints)
 
 -- so a distance is at least one unit
 pub distance-least : (f : Figures) (now : ℕ) → pos 0 ≤ℤ f.dispersion → pos 1 ≤ℤ distance_of now f
 distance-least f now least = parts-least (ceil_div (int_max (pos least_dispersion) (root_delay_of f)) 2) (f.root_disp.0 * 65536) f.dispersion (phi (now - f.taken_at)) (root f.jitter2) (half-some (root_delay_of f)) least
 
-parts-dispersion : (told : ℕ) (own : ℤ) (drift jitter : ℕ) → pos 0 ≤ℤ own → pos 0 ≤ℤ (((pos told +ℤ own) +ℤ pos drift) +ℤ pos jitter)
-parts-dispersion told own drift jitter least = omega (arith, ints)
+parts-dispersion : (reported : ℕ) (own : ℤ) (drift jitter : ℕ) → pos 0 ≤ℤ own → pos 0 ≤ℤ (((pos reported +ℤ own) +ℤ pos drift) +ℤ pos jitter)
+parts-dispersion reported own drift jitter least = omega (arith, ints)
 
 pub dispersion-least : (f : Figures) (now : ℕ) → pos 0 ≤ℤ f.dispersion → pos 0 ≤ℤ root_dispersion_of now f
 dispersion-least f now least = parts-dispersion (f.root_disp.0 * 65536) f.dispersion (phi (now - f.taken_at)) (root f.jitter2) least

@@ -1,7 +1,7 @@
 //! The clock filter of a source: its last eight samples.
 ghost use Rattle.std.specs.Prelude.{◌≡◌, ◌≤◌, ◌^◌, List, [], ◌∷◌, ◌++◌, length, filter, nat_le, option_map, Some, IfSome};
 ghost use Rattle.tick_units.specs.Orders.{in_order};
-ghost use Rattle.clock_filter.specs.Bounds.{AreLawful, IsMeasured, IsTimely};
+ghost use Rattle.clock_filter.specs.Bounds.{AreValid, IsMeasured, IsTimely};
 ghost use Rattle.clock_filter.specs.Figures as figures;
 ghost use Rattle.clock_filter.specs.Held.{StandsFor, held, may_precede};
 ghost use Rattle.clock_filter.specs.Known.{IsKnown};
@@ -123,7 +123,7 @@ impl Filter {
             result ≡ figures.figures_of (held cut samples) }
         ensures timely { IfSome result (IsTimely cut) }
         ensures jitter { IfSome result (λ f. f.jitter2 ≤ 2 ^ 80) }
-        ensures measured { (samples : List Taken) → StandsFor self.now samples → AreLawful samples →
+        ensures measured { (samples : List Taken) → StandsFor self.now samples → AreValid samples →
             IfSome result IsMeasured }
     {
         let ready = self.ready(cut)?;
@@ -137,7 +137,7 @@ impl Filter {
             IfSome (option_map (λ r. r.now) result) (λ f. Some f ≡ figures.figures_of (held cut samples)) }
         ensures timely { IfSome (option_map (λ r. r.now) result) (IsTimely cut) }
         ensures jitter { IfSome (option_map (λ r. r.now) result) (λ f. f.jitter2 ≤ 2 ^ 80) }
-        ensures measured { (samples : List Taken) → StandsFor self.now samples → AreLawful samples →
+        ensures measured { (samples : List Taken) → StandsFor self.now samples → AreValid samples →
             IfSome (option_map (λ r. r.now) result) IsMeasured }
     {
         if cut == self.cut {
@@ -153,7 +153,7 @@ impl Filter {
             result ≡ figures.figures_of (held cut samples) }
         ensures timely { IfSome result (IsTimely cut) }
         ensures jitter { IfSome result (λ f. f.jitter2 ≤ 2 ^ 80) }
-        ensures measured { (samples : List Taken) → StandsFor self.now samples → AreLawful samples →
+        ensures measured { (samples : List Taken) → StandsFor self.now samples → AreValid samples →
             IfSome result IsMeasured }
     {
         if cut == self.cut {

@@ -30,11 +30,11 @@ length-discards all fewer h = omega (arith, simp length-append at (ap length h.w
 -- the members that are fewer were there before
 left-before : (all fewer : List Survivor) (x : Survivor) → Discards all fewer → Contains fewer x → Contains all x
 left-before all fewer x h here =
-    subst (λ xs. Contains xs x) (sym h.whole) (by_part (Contains-append_cases h.front h.back x (subst (λ xs. Contains xs x) h.others here)))
+    subst (λ xs. Contains xs x) (sym h.whole) (by_part (Contains-append_cases h.prefix h.back x (subst (λ xs. Contains xs x) h.others here)))
   where
-    by_part : Contains h.front x ⊎ Contains h.back x → Contains (h.front ++ h.discarded ∷ h.back) x
-    by_part (inl before) = Contains-append_left h.front (h.discarded ∷ h.back) x before
-    by_part (inr behind) = Contains-append_right h.front (h.discarded ∷ h.back) x (suc behind.0, omega (arith, behind.1), behind.2)
+    by_part : Contains h.prefix x ⊎ Contains h.back x → Contains (h.prefix ++ h.discarded ∷ h.back) x
+    by_part (inl before) = Contains-append_left h.prefix (h.discarded ∷ h.back) x before
+    by_part (inr later) = Contains-append_right h.prefix (h.discarded ∷ h.back) x (suc later.0, omega (arith, later.1), later.2)
 
 -- survivors settle to one list
 pub settled-is : (all left : List Survivor) → Settles all left → (steps : ℕ) → length all ≤ steps → left ≡ left_within steps all

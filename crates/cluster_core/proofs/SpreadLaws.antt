@@ -68,8 +68,8 @@ pub member-near : (s : Sums) (all : List Survivor) (x : Survivor) → AreSums s 
 member-near s all x kept member = All-contains (λ y. apart s.base y ≤ 2 ^ 40) all x kept.near member
 
 -- one survivor more
-front-more : (all : List Survivor) (i : ℕ) (x : Survivor) → i < length all → x ≡ get_or all i x → take (i + 1) all ≡ take i all ++ x ∷ []
-front-more all i x below here = take_more all i x below ∙ ap (λ (y : Survivor). take i all ++ y ∷ []) (sym here)
+prefix-more : (all : List Survivor) (i : ℕ) (x : Survivor) → i < length all → x ≡ get_or all i x → take (i + 1) all ≡ take i all ++ x ∷ []
+prefix-more all i x below here = take_more all i x below ∙ ap (λ (y : Survivor). take i all ++ y ∷ []) (sym here)
 
 min-below : (least more z : ℤ) → more ≡ int_min least z → more ≤ℤ least
 min-below least more z is = omega (arith, ints, clamps)
@@ -82,7 +82,7 @@ less-than x y z g h = omega (arith, ints)
 
 pub least-more : (all : List Survivor) (i : ℕ) (x : Survivor) (least more : ℤ) → i < length all → x ≡ get_or all i x → All (λ y. least ≤ℤ y.offset) (take i all) → more ≡ int_min least x.offset → All (λ y. more ≤ℤ y.offset) (take (i + 1) all)
 least-more all i x least more below here before is =
-    subst (All (λ y. more ≤ℤ y.offset)) (sym (front-more all i x below here))
+    subst (All (λ y. more ≤ℤ y.offset)) (sym (prefix-more all i x below here))
     (All-push (λ y. more ≤ℤ y.offset) (take i all) x (All-weaker (λ y. least ≤ℤ y.offset) (λ y. more ≤ℤ y.offset) (λ y h. less-than more least y.offset (min-below least more x.offset is) h) (take i all) before) (min-least least more x.offset is))
 
 pub least-all : (all : List Survivor) (i : ℕ) (least : ℤ) → length all ≤ i → All (λ y. least ≤ℤ y.offset) (take i all) → All (λ y. least ≤ℤ y.offset) all
@@ -110,5 +110,5 @@ sums-more s new all i x away below here least kept away_is near is =
     let above : s.base ≤ℤ x.offset = subst (λ (y : Survivor). s.base ≤ℤ y.offset) (sym here) (least i x below) in
     let same = is ∙ ap (with s) away_is in (
       subst (λ (t : Sums). All (λ y. t.base ≤ℤ y.offset) all) (sym same) least,
-      subst (λ (t : Sums). AreSums t (take (i + 1) all)) (sym same) (subst (AreSums (with s (apart s.base x))) (sym (front-more all i x below here)) (sums-push s (take i all) x above (subst (λ (n : ℕ). n ≤ 2 ^ 40) away_is near) kept)),
+      subst (λ (t : Sums). AreSums t (take (i + 1) all)) (sym same) (subst (AreSums (with s (apart s.base x))) (sym (prefix-more all i x below here)) (sums-push s (take i all) x above (subst (λ (n : ℕ). n ≤ 2 ^ 40) away_is near) kept)),
     )

@@ -32,18 +32,18 @@ worst-is all seen place most some whole worst =
       (
         subst (λ n. place < n) whole (worst.within (omega arith)),
         (λ k d within. let at = worst.is (omega arith) d in let bound = fold-bounds (selection_jitter all) all 0 k d within in le-ltb _ _ (omega arith)),
-        (λ k d behind within. let at = worst.is (omega arith) d in let less = worst.later k d behind (omega arith) in lt-ltb _ _ (omega arith)),
+        (λ k d following within. let at = worst.is (omega arith) d in let less = worst.later k d following (omega arith) in lt-ltb _ _ (omega arith)),
       ),
       is,
     )
 
 -- a list parted at the last of its greatest
 record Parts (number : Survivor → ℕ) (all left : List Survivor) : Type 0 where
-  front : List Survivor
+  prefix : List Survivor
   item : Survivor
   back : List Survivor
-  whole : all ≡ front ++ item ∷ back
-  others : left ≡ front ++ back
+  whole : all ≡ prefix ++ item ∷ back
+  others : left ≡ prefix ++ back
   most : All (λ x. number x ≤ number item) all
   last : All (λ x. number x < number item) back
 
@@ -52,26 +52,26 @@ all-from number n [] below = refl
 all-from number n (x ∷ xs) below = rw (lt-ltb (number x) n (All-head (λ x. number x < n) x xs below)) (all-from number n xs (All-tail (λ x. number x < n) x xs below))
 
 -- one that is not less keeps an item from being above all
-not_all : (number : Survivor → ℕ) (x y : Survivor) (front back : List Survivor) → number y ≤ number x → list_all (λ z. nat_lt (number z) (number y)) (front ++ x ∷ back) ≡ false
+not_all : (number : Survivor → ℕ) (x y : Survivor) (prefix back : List Survivor) → number y ≤ number x → list_all (λ z. nat_lt (number z) (number y)) (prefix ++ x ∷ back) ≡ false
 not_all number x y [] back least = rw (le-ltb (number x) (number y) least) refl
-not_all number x y (z ∷ front) back least = rw (not_all number x y front back least) (and-false (nat_lt (number z) (number y)))
+not_all number x y (z ∷ prefix) back least = rw (not_all number x y prefix back least) (and-false (nat_lt (number z) (number y)))
   where
     and-false : (b : Bool) → (b && false) ≡ false
     and-false true = refl
     and-false false = refl
 
 -- so a list that is parted there is without that item
-pub without-parts : (number : Survivor → ℕ) (front : List Survivor) (item : Survivor) (back : List Survivor) → All (λ x. number x ≤ number item) (front ++ item ∷ back) → All (λ x. number x < number item) back → without_greatest number (front ++ item ∷ back) ≡ front ++ back
+pub without-parts : (number : Survivor → ℕ) (prefix : List Survivor) (item : Survivor) (back : List Survivor) → All (λ x. number x ≤ number item) (prefix ++ item ∷ back) → All (λ x. number x < number item) back → without_greatest number (prefix ++ item ∷ back) ≡ prefix ++ back
 without-parts number [] item back most last = rw (all-from number (number item) back last) refl
-without-parts number (x ∷ front) item back most last =
-    rw (not_all number item x front back (All-head (λ y. number y ≤ number item) x (front ++ item ∷ back) most))
-    (ap (λ (xs : List Survivor). x ∷ xs) (without-parts number front item back (All-tail (λ y. number y ≤ number item) x (front ++ item ∷ back) most) last))
+without-parts number (x ∷ prefix) item back most last =
+    rw (not_all number item x prefix back (All-head (λ y. number y ≤ number item) x (prefix ++ item ∷ back) most))
+    (ap (λ (xs : List Survivor). x ∷ xs) (without-parts number prefix item back (All-tail (λ y. number y ≤ number item) x (prefix ++ item ∷ back) most) last))
 
 -- only one list comes from a discard
 pub discards-is : (all left : List Survivor) → Discards all left → left ≡ without_greatest (selection_jitter all) all
 discards-is all left h =
     h.others
-    ∙ sym (without-parts (selection_jitter all) h.front h.discarded h.back (subst (λ xs. All (λ x. selection_jitter all x ≤ selection_jitter all h.discarded) xs) h.whole h.greatest) h.last)
+    ∙ sym (without-parts (selection_jitter all) h.prefix h.discarded h.back (subst (λ xs. All (λ x. selection_jitter all x ≤ selection_jitter all h.discarded) xs) h.whole h.greatest) h.last)
     ∙ ap (without_greatest (selection_jitter all)) (sym h.whole)
 
 most-at : (number : Survivor → ℕ) (all : List Survivor) (place : ℕ) (e : Survivor) → IsLastBest (λ x y. nat_lt (number y) (number x)) all (length all) place → All (λ x. number x ≤ number (get_or all place e)) all
@@ -86,7 +86,7 @@ last-at number all place e worst = All-from_get_or (λ x. number x < number (get
 pub discards-at : (all : List Survivor) (place : ℕ) → IsWorst all place → Discards all (remove all place)
 discards-at [] place worst = absurd (omega (arith, worst.0))
 discards-at (x ∷ xs) place worst = record {
-  front = take place (x ∷ xs);
+  prefix = take place (x ∷ xs);
   discarded = get_or (x ∷ xs) place x;
   back = drop (suc place) (x ∷ xs);
   whole = sym (take-append-drop place (x ∷ xs)) ∙ ap (λ (ys : List Survivor). take place (x ∷ xs) ++ ys) (drop_more (x ∷ xs) place x worst.0 ∙ ap (λ (n : ℕ). get_or (x ∷ xs) place x ∷ drop n (x ∷ xs)) (add-one place));
@@ -109,14 +109,14 @@ below-all number n [] passes = All-nil (λ x. number x < n)
 below-all number n (x ∷ xs) passes = All-cons (λ y. number y < n) x xs (ltb-true (number x) n (and-left _ _ passes)) (below-all number n xs (and-right _ _ passes))
 
 parts-of : (number : Survivor → ℕ) (x : Survivor) (xs : List Survivor) → Parts number (x ∷ xs) (without_greatest number (x ∷ xs))
-parts-of number x [] = record { front = []; item = x; back = []; whole = refl; others = refl; most = All-cons (λ y. number y ≤ number x) x [] (omega arith) (All-nil (λ y. number y ≤ number x)); last = All-nil (λ y. number y < number x) }
+parts-of number x [] = record { prefix = []; item = x; back = []; whole = refl; others = refl; most = All-cons (λ y. number y ≤ number x) x [] (omega arith) (All-nil (λ y. number y ≤ number x)); last = All-nil (λ y. number y < number x) }
 parts-of number x (y ∷ ys) = by_test (parts-of number y ys) (list_all (λ z. nat_lt (number z) (number x)) (y ∷ ys)) refl
   where
     by_test : Parts number (y ∷ ys) (without_greatest number (y ∷ ys)) → (b : Bool) → list_all (λ z. nat_lt (number z) (number x)) (y ∷ ys) ≡ b → Parts number (x ∷ y ∷ ys) (cond b (y ∷ ys) (x ∷ without_greatest number (y ∷ ys)))
-    by_test behind true test =
+    by_test following true test =
         let below = below-all number (number x) (y ∷ ys) test in
         record {
-          front = [];
+          prefix = [];
           item = x;
           back = y ∷ ys;
           whole = refl;
@@ -124,20 +124,20 @@ parts-of number x (y ∷ ys) = by_test (parts-of number y ys) (list_all (λ z. n
           most = All-cons (λ z. number z ≤ number x) x (y ∷ ys) (omega arith) (All-weaker (λ z. number z < number x) (λ z. number z ≤ number x) (λ z less. omega arith) (y ∷ ys) below);
           last = below;
         }
-    by_test behind false test = record {
-      front = x ∷ behind.front;
-      item = behind.item;
-      back = behind.back;
-      whole = ap (λ (zs : List Survivor). x ∷ zs) behind.whole;
-      others = ap (λ (zs : List Survivor). x ∷ zs) behind.others;
-      most = All-cons (λ z. number z ≤ number behind.item) x (y ∷ ys) (by_order (cases_lt (number behind.item) (number x))) behind.most;
-      last = behind.last;
+    by_test following false test = record {
+      prefix = x ∷ following.prefix;
+      item = following.item;
+      back = following.back;
+      whole = ap (λ (zs : List Survivor). x ∷ zs) following.whole;
+      others = ap (λ (zs : List Survivor). x ∷ zs) following.others;
+      most = All-cons (λ z. number z ≤ number following.item) x (y ∷ ys) (by_order (cases_lt (number following.item) (number x))) following.most;
+      last = following.last;
     }
       where
-        by_order : (number behind.item < number x) ⊎ (number x ≤ number behind.item) → number x ≤ number behind.item
+        by_order : (number following.item < number x) ⊎ (number x ≤ number following.item) → number x ≤ number following.item
         by_order (inr upto) = upto
-        by_order (inl above) = absurd (false≢true (sym test ∙ all-from number (number x) (y ∷ ys) (All-weaker (λ z. number z ≤ number behind.item) (λ z. number z < number x) (λ z upto. omega arith) (y ∷ ys) behind.most)))
+        by_order (inl above) = absurd (false≢true (sym test ∙ all-from number (number x) (y ∷ ys) (All-weaker (λ z. number z ≤ number following.item) (λ z. number z < number x) (λ z upto. omega arith) (y ∷ ys) following.most)))
 
 pub discards-some : (all : List Survivor) → 0 < length all → Discards all (without_greatest (selection_jitter all) all)
 discards-some [] some = absurd (omega arith)
-discards-some (x ∷ xs) some = let p = parts-of (selection_jitter (x ∷ xs)) x xs in record { front = p.front; discarded = p.item; back = p.back; whole = p.whole; others = p.others; greatest = p.most; last = p.last }
+discards-some (x ∷ xs) some = let p = parts-of (selection_jitter (x ∷ xs)) x xs in record { prefix = p.prefix; discarded = p.item; back = p.back; whole = p.whole; others = p.others; greatest = p.most; last = p.last }

@@ -27,11 +27,11 @@ IsWorst all place = IsLastBest (λ x y. nat_lt (selection_jitter all y) (selecti
 
 -- one is discarded: none has a greater selection jitter, and of those with as great a jitter it is the last
 pub record Discards (all left : List Survivor) : Type 0 where
-  pub front : List Survivor
+  pub prefix : List Survivor
   pub discarded : Survivor
   pub back : List Survivor
-  pub whole : all ≡ front ++ discarded ∷ back
-  pub others : left ≡ front ++ back
+  pub whole : all ≡ prefix ++ discarded ∷ back
+  pub others : left ≡ prefix ++ back
   pub greatest : All (λ x. selection_jitter all x ≤ selection_jitter all discarded) all
   pub last : All (λ x. selection_jitter all x < selection_jitter all discarded) back
 

@@ -12,7 +12,7 @@ use Rattle.command_words.proofs.LineLaws.{HasLine, command_of, given_of, lined, 
 use Rattle.command_words.proofs.Names.{all_from, known}
 use Rattle.command_words.proofs.Parts.{Part, fits, given_in, names_option, part_row, parts_after, words_in}
 use Rattle.command_words.proofs.Readings.{meets}
-use Rattle.command_words.proofs.Values.{lawful, may_from, once, one_word, value_same, word_first}
+use Rattle.command_words.proofs.Values.{valid, may_from, once, one_word, value_same, word_first}
 use Rattle.command_words.proofs.Walks.{fault_is, matches_are}
 
 -- ---- what holds of each command
@@ -57,7 +57,7 @@ asks words ps a f h are =
       spelt = h.spelt;
       command = sym words_are ∙ one_word [] ps (name_of a) f are.command;
       once = subst IsOnce given_is (once [] ps f);
-      lawful = subst (λ g. list_all (is_of (row_of a)) g ≡ true) given_is (lawful (row_of a) ps f are.fit.only);
+      valid = subst (λ g. list_all (is_of (row_of a)) g ≡ true) given_is (valid (row_of a) ps f are.fit.only);
       says = subst (λ g. Says (λ name. value_of name g) a) given_is
           (says_along (λ name. first_of name (map part_row ps)) (λ name. value_of name (given_in ps)) (λ name k. value_same name (known name k).apart ps) a are.fit.says);
     }
@@ -77,7 +77,7 @@ stands : (ps : List Part) (a : Asked) → IsOnce (given_in ps) → list_all (is_
 stands ps a one all word = record {
   of_known = row_known a;
   once = one;
-  lawful = all;
+  valid = all;
   new = λ name k h. absurd (true≢false (sym h));
   single = subst (Single []) (sym word) (refl, name_value a, refl);
 }
@@ -107,7 +107,7 @@ pub every : (words : List Text) (a : Asked) → AskFor words a → Taken words a
 every words a asked =
     let ps : List Part = parts_of asked.line in
     let given_is : options asked.line ≡ given_in ps = sym (given_of asked.line) in
-    let all : list_all (is_of (row_of a)) (given_in ps) ≡ true = subst (λ g. list_all (is_of (row_of a)) g ≡ true) given_is asked.lawful in
+    let all : list_all (is_of (row_of a)) (given_in ps) ≡ true = subst (λ g. list_all (is_of (row_of a)) g ≡ true) given_is asked.valid in
     let word : words_in ps ≡ name_of a ∷ [] = command_of asked.line ∙ asked.command in
     let g = good (row_of a) [] ps (stands ps a (subst IsOnce given_is asked.once) all word) in
     let are : parts_after None words ≡ Some ps = ap (parts_after None) asked.spelt ∙ parts_spelt asked.line g.sound in

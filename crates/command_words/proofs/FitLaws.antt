@@ -22,7 +22,7 @@ Single rows (word ∷ more) = (has_row word_id rows ≡ false) × (is_value word
 pub record Stand (of : List Text) (rows : List Row) (ps : List Part) : Type 0 where
   pub of_known : list_all names_option of ≡ true
   pub once : IsOnce (given_in ps)
-  pub lawful : list_all (is_of of) (given_in ps) ≡ true
+  pub valid : list_all (is_of of) (given_in ps) ≡ true
   pub new : (name : Text) → names_option name ≡ true → has_row name rows ≡ true → value_of name (given_in ps) ≡ None
   pub single : Single rows (words_in ps)
 
@@ -61,11 +61,11 @@ good_option rows name value ps k fresh v g = record {
 }
 
 -- the parts after a command word
-word_behind : (of : List Text) (rows : List Row) (text : Text) (ps : List Part) → Stand of rows ((None, text) ∷ ps) → Stand of (rows ++ row word_id text ∷ []) ps
-word_behind of rows text ps s = record {
+word_after : (of : List Text) (rows : List Row) (text : Text) (ps : List Part) → Stand of rows ((None, text) ∷ ps) → Stand of (rows ++ row word_id text ∷ []) ps
+word_after of rows text ps s = record {
   of_known = s.of_known;
   once = s.once;
-  lawful = s.lawful;
+  valid = s.valid;
   new = λ name k h. s.new name k (elim (or_cases (has_row name rows) (bytes_eq word_id name) (sym (has_row-push name rows (row word_id text)) ∙ h)) [
     | inl before ↦ before
     | inr same ↦ absurd (true≢false (sym same ∙ (known name k).apart))
@@ -74,21 +74,21 @@ word_behind of rows text ps s = record {
 }
 
 -- the parts after an option
-option_behind : (of : List Text) (rows : List Row) (m value : Text) (ps : List Part) → names_option m ≡ true → Stand of rows ((Some m, value) ∷ ps)
+option_after : (of : List Text) (rows : List Row) (m value : Text) (ps : List Part) → names_option m ≡ true → Stand of rows ((Some m, value) ∷ ps)
     → Stand of (rows ++ row m value ∷ []) ps
-option_behind of rows m value ps k s = record {
+option_after of rows m value ps k s = record {
   of_known = s.of_known;
   once = s.once.1;
-  lawful = (and_parts (is_of of (record { name = m; value = value })) (list_all (is_of of) (given_in ps)) s.lawful).1;
+  valid = (and_parts (is_of of (record { name = m; value = value })) (list_all (is_of of) (given_in ps)) s.valid).1;
   new = λ name kn h. elim (or_cases (has_row name rows) (bytes_eq m name) (sym (has_row-push name rows (row m value)) ∙ h)) [
-    | inl before ↦ none_behind name (s.new name kn before)
+    | inl before ↦ none_later name (s.new name kn before)
     | inr same ↦ subst (λ t. value_of t (given_in ps) ≡ None) (same_text m name same) s.once.0
   ];
   single = single_later rows (row m value) (words_in ps) (known m k).other s.single;
 }
   where
-    none_behind : (name : Text) → value_of name (record { name = m; value = value } ∷ given_in ps) ≡ None → value_of name (given_in ps) ≡ None
-    none_behind name e = elim (cases_Bool (bytes_eq m name)) [
+    none_later : (name : Text) → value_of name (record { name = m; value = value } ∷ given_in ps) ≡ None → value_of name (given_in ps) ≡ None
+    none_later name e = elim (cases_Bool (bytes_eq m name)) [
       | inl same ↦ (let some : value_of name (record { name = m; value = value } ∷ given_in ps) ≡ Some value = rw same refl in absurd (true≢false (sym (ap is_some some) ∙ ap is_some e)))
       | inr other ↦ (let skip : value_of name (record { name = m; value = value } ∷ given_in ps) ≡ value_of name (given_in ps) = rw other refl in sym skip ∙ e)
     ]
@@ -96,9 +96,9 @@ option_behind of rows m value ps k s = record {
 pub good : (of : List Text) (rows : List Row) (ps : List Part) → Stand of rows ps → AreGood rows ps
 good of rows [] s = record { fit = refl; values = refl; known = refl; sound = refl }
 good of rows ((None, text) ∷ ps) s =
-    good_word rows text ps s.single.0 s.single.1 (good of (rows ++ row word_id text ∷ []) ps (word_behind of rows text ps s))
+    good_word rows text ps s.single.0 s.single.1 (good of (rows ++ row word_id text ∷ []) ps (word_after of rows text ps s))
 good of rows ((Some m, value) ∷ ps) s =
-    let here = (and_parts (is_of of (record { name = m; value = value })) (list_all (is_of of) (given_in ps)) s.lawful).0 in
+    let here = (and_parts (is_of of (record { name = m; value = value })) (list_all (is_of of) (given_in ps)) s.valid).0 in
     let both = and_parts (list_any (bytes_eq m) of) (is_value value) here in
     let k : names_option m ≡ true = of_row names_option m of s.of_known both.0 in
     let fresh : has_row m rows ≡ false = elim (cases_Bool (has_row m rows)) [
@@ -107,4 +107,4 @@ good of rows ((Some m, value) ∷ ps) s =
           let some : value_of m (record { name = m; value = value } ∷ given_in ps) ≡ Some value = rw (itself m) refl in
           absurd (true≢false (sym (ap is_some some) ∙ ap is_some (s.new m k has)))
     ] in
-    good_option rows m value ps k fresh both.1 (good of (rows ++ row m value ∷ []) ps (option_behind of rows m value ps k s))
+    good_option rows m value ps k fresh both.1 (good of (rows ++ row m value ∷ []) ps (option_after of rows m value ps k s))

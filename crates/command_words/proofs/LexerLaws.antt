@@ -88,11 +88,11 @@ value_not_long (byte ∷ more) v = elim (cases_Bool (byte == 45)) [
 same_byte : (a b : ℕ) → (a == b) ≡ true → a ≡ b
 same_byte a b e = grind (arith, nat_tests)
 
-front : (k x : ℕ) (xs : Text) → take (1 + k) (x ∷ xs) ≡ x ∷ take k xs
-front k x xs = (let e : 1 + k ≡ suc k = omega arith in rw e refl)
+prefix : (k x : ℕ) (xs : Text) → take (1 + k) (x ∷ xs) ≡ x ∷ take k xs
+prefix k x xs = (let e : 1 + k ≡ suc k = omega arith in rw e refl)
 
-behind : (k x : ℕ) (xs : Text) → drop (1 + k + 1) (x ∷ xs) ≡ drop (k + 1) xs
-behind k x xs = (let e : 1 + k + 1 ≡ suc (k + 1) = omega arith in rw e refl)
+operands : (k x : ℕ) (xs : Text) → drop (1 + k + 1) (x ∷ xs) ≡ drop (k + 1) xs
+operands k x xs = (let e : 1 + k + 1 ≡ suc (k + 1) = omega arith in rw e refl)
 
 abbrev cut : Text → Text
 cut text = before_first (λ x. x == 61) text ++ 61 ∷ after_first (λ x. x == 61) text
@@ -104,7 +104,7 @@ cut_is (x ∷ xs) h = elim (cases_Bool (x == 61)) [
   | inr e ↦
       let later : has_byte 61 xs ≡ true = rw e at h in
       let k : ℕ = position_or_len (λ b. b == 61) xs in
-      rw (e, front k x xs, behind k x xs) (ap (λ t. x ∷ t) (cut_is xs later))
+      rw (e, prefix k x xs, operands k x xs) (ap (λ t. x ∷ t) (cut_is xs later))
 ]
 
 uncut_is : (text : Text) → has_byte 61 text ≡ false → before_first (λ x. x == 61) text ≡ text

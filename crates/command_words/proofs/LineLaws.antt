@@ -5,7 +5,7 @@ use Rattle.std.proofs.lemmas.Option.{same_Some}
 use Rattle.std.specs.Prelude.{filter_map, unwrap_or}
 use Rattle.std.specs.List.{flat_map, list_all}
 use Rattle.clap.specs.Lexer.{long_of}
-use Rattle.command_words.specs.CommandLine.{Line, Piece, Text, apart, command_word_of, command_words, is_value, joined, option_of, options, word, words_behind, words_of, words_of_piece}
+use Rattle.command_words.specs.CommandLine.{Line, Piece, Text, apart, command_word_of, command_words, is_value, joined, option_of, options, word, words_after, words_of, words_of_piece}
 use Rattle.command_words.proofs.LexerLaws.{apart_not_mark, is_name, joined_not_mark, long_apart, long_joined, value_not_long, value_not_mark, word_for, word_is}
 use Rattle.command_words.proofs.Meets.{split_part}
 use Rattle.command_words.proofs.Names.{same_text}
@@ -19,11 +19,11 @@ part_of_piece (apart given) = (Some given.name, given.value)
 part_of_piece (joined given) = (Some given.name, given.value)
 
 abbrev pub parts_from : List Piece → Option (List Text) → List Part
-parts_from [] behind = map trailing_part (unwrap_or behind [])
-parts_from (p ∷ pieces) behind = part_of_piece p ∷ parts_from pieces behind
+parts_from [] operands = map trailing_part (unwrap_or operands [])
+parts_from (p ∷ pieces) operands = part_of_piece p ∷ parts_from pieces operands
 
 abbrev pub parts_of : Line → List Part
-parts_of line = parts_from line.pieces line.behind
+parts_of line = parts_from line.pieces line.operands
 
 -- ---- the options and the command words of a line are those of its parts
 
@@ -35,23 +35,23 @@ all_words : (words : List Text) → words_in (map trailing_part words) ≡ words
 all_words [] = refl
 all_words (w ∷ words) = ap (λ ws. w ∷ ws) (all_words words)
 
-given_from : (pieces : List Piece) (behind : Option (List Text)) → given_in (parts_from pieces behind) ≡ filter_map option_of pieces
-given_from [] behind = no_options (unwrap_or behind [])
-given_from (word text ∷ pieces) behind = given_from pieces behind
-given_from (apart given ∷ pieces) behind = ap (λ gs. given ∷ gs) (given_from pieces behind)
-given_from (joined given ∷ pieces) behind = ap (λ gs. given ∷ gs) (given_from pieces behind)
+given_from : (pieces : List Piece) (operands : Option (List Text)) → given_in (parts_from pieces operands) ≡ filter_map option_of pieces
+given_from [] operands = no_options (unwrap_or operands [])
+given_from (word text ∷ pieces) operands = given_from pieces operands
+given_from (apart given ∷ pieces) operands = ap (λ gs. given ∷ gs) (given_from pieces operands)
+given_from (joined given ∷ pieces) operands = ap (λ gs. given ∷ gs) (given_from pieces operands)
 
-words_from : (pieces : List Piece) (behind : Option (List Text)) → words_in (parts_from pieces behind) ≡ filter_map command_word_of pieces ++ unwrap_or behind []
-words_from [] behind = all_words (unwrap_or behind [])
-words_from (word text ∷ pieces) behind = ap (λ ws. text ∷ ws) (words_from pieces behind)
-words_from (apart given ∷ pieces) behind = words_from pieces behind
-words_from (joined given ∷ pieces) behind = words_from pieces behind
+words_from : (pieces : List Piece) (operands : Option (List Text)) → words_in (parts_from pieces operands) ≡ filter_map command_word_of pieces ++ unwrap_or operands []
+words_from [] operands = all_words (unwrap_or operands [])
+words_from (word text ∷ pieces) operands = ap (λ ws. text ∷ ws) (words_from pieces operands)
+words_from (apart given ∷ pieces) operands = words_from pieces operands
+words_from (joined given ∷ pieces) operands = words_from pieces operands
 
 pub given_of : (line : Line) → given_in (parts_of line) ≡ options line
-given_of line = given_from line.pieces line.behind
+given_of line = given_from line.pieces line.operands
 
 pub command_of : (line : Line) → words_in (parts_of line) ≡ command_words line
-command_of line = words_from line.pieces line.behind
+command_of line = words_from line.pieces line.operands
 
 -- ---- words that have parts are a line's
 
@@ -68,7 +68,7 @@ Later words = (next : Text) (more : List Text) → words ≡ next ∷ more → L
 
 add_word : (text : Text) (words : List Text) (ps qs : List Part) → ps ≡ (None, text) ∷ qs → HasLine words qs → HasLine (text ∷ words) ps
 add_word text words ps qs e h = record {
-  line = record { pieces = word text ∷ h.line.pieces; behind = h.line.behind };
+  line = record { pieces = word text ∷ h.line.pieces; operands = h.line.operands };
   spelt = ap (λ ws. text ∷ ws) h.spelt;
   parts = ap (λ rest. (None, text) ∷ rest) h.parts ∙ sym e;
 }
@@ -76,7 +76,7 @@ add_word text words ps qs e h = record {
 add_apart : (text name value : Text) (words : List Text) (ps qs : List Part) → text ≡ word_for name None → ps ≡ (Some name, value) ∷ qs → HasLine words qs
     → HasLine (text ∷ value ∷ words) ps
 add_apart text name value words ps qs is e h = record {
-  line = record { pieces = apart (record { name = name; value = value }) ∷ h.line.pieces; behind = h.line.behind };
+  line = record { pieces = apart (record { name = name; value = value }) ∷ h.line.pieces; operands = h.line.operands };
   spelt = ap (λ t. t ∷ value ∷ words) is ∙ ap (λ ws. word_for name None ∷ value ∷ ws) h.spelt;
   parts = ap (λ rest. (Some name, value) ∷ rest) h.parts ∙ sym e;
 }
@@ -84,14 +84,14 @@ add_apart text name value words ps qs is e h = record {
 add_joined : (text name value : Text) (words : List Text) (ps qs : List Part) → text ≡ word_for name (Some value) → ps ≡ (Some name, value) ∷ qs → HasLine words qs
     → HasLine (text ∷ words) ps
 add_joined text name value words ps qs is e h = record {
-  line = record { pieces = joined (record { name = name; value = value }) ∷ h.line.pieces; behind = h.line.behind };
+  line = record { pieces = joined (record { name = name; value = value }) ∷ h.line.pieces; operands = h.line.operands };
   spelt = ap (λ t. t ∷ words) is ∙ ap (λ ws. word_for name (Some value) ∷ ws) h.spelt;
   parts = ap (λ rest. (Some name, value) ∷ rest) h.parts ∙ sym e;
 }
 
-behind_mark : (text : Text) (words : List Text) (ps : List Part) → bytes_eq text mark ≡ true → parts_after None (text ∷ words) ≡ Some ps → HasLine (text ∷ words) ps
-behind_mark text words ps e are = record {
-  line = record { pieces = []; behind = Some words };
+after_mark : (text : Text) (words : List Text) (ps : List Part) → bytes_eq text mark ≡ true → parts_after None (text ∷ words) ≡ Some ps → HasLine (text ∷ words) ps
+after_mark text words ps e are = record {
+  line = record { pieces = []; operands = Some words };
   spelt = ap (λ t. t ∷ words) (same_text text mark e);
   parts = same_Some _ _ (sym (parts_mark text words e) ∙ are);
 }
@@ -114,12 +114,12 @@ by_long text words ps (Some (name, Some value)) l here later are =
 word_lined : (text : Text) (words : List Text) → Lined words → Later words → Lined (text ∷ words)
 word_lined text words here later ps are =
     elim (cases_Bool (bytes_eq text mark)) [
-      | inl e ↦ behind_mark text words ps e are
+      | inl e ↦ after_mark text words ps e are
       | inr e ↦ by_long text words ps (long_of text) refl here later (sym (parts_by text words (long_of text) e refl) ∙ are)
     ]
 
 nothing_lined : Lined []
-nothing_lined ps are = record { line = record { pieces = []; behind = None }; spelt = refl; parts = same_Some _ _ (sym parts_end ∙ are) }
+nothing_lined ps are = record { line = record { pieces = []; operands = None }; spelt = refl; parts = same_Some _ _ (sym parts_end ∙ are) }
 
 none_later : Later []
 none_later next more e = absurd (true≢false (sym (ap has_any e)))
@@ -139,34 +139,34 @@ abbrev pub is_sound : Part → Bool
 is_sound (None, text) = is_value text
 is_sound (Some name, value) = is_name name
 
-parts_behind : (behind : Option (List Text)) → parts_after None (words_behind behind) ≡ Some (map trailing_part (unwrap_or behind []))
-parts_behind None = parts_end
-parts_behind (Some words) = parts_mark mark words refl
+parts_past : (operands : Option (List Text)) → parts_after None (words_after operands) ≡ Some (map trailing_part (unwrap_or operands []))
+parts_past None = parts_end
+parts_past (Some words) = parts_mark mark words refl
 
-parts_of_words : (pieces : List Piece) (behind : Option (List Text)) → list_all (λ p. is_sound (part_of_piece p)) pieces ≡ true
-    → parts_after None (flat_map words_of_piece pieces ++ words_behind behind) ≡ Some (parts_from pieces behind)
-parts_of_words [] behind h = parts_behind behind
-parts_of_words (word text ∷ pieces) behind h =
+parts_of_words : (pieces : List Piece) (operands : Option (List Text)) → list_all (λ p. is_sound (part_of_piece p)) pieces ≡ true
+    → parts_after None (flat_map words_of_piece pieces ++ words_after operands) ≡ Some (parts_from pieces operands)
+parts_of_words [] operands h = parts_past operands
+parts_of_words (word text ∷ pieces) operands h =
     let sound = and_parts (is_value text) _ h in
-    parts_by text (flat_map words_of_piece pieces ++ words_behind behind) None (value_not_mark text sound.0) (value_not_long text sound.0)
-    ∙ ap (with_part None text) (parts_of_words pieces behind sound.1)
-parts_of_words (apart given ∷ pieces) behind h =
+    parts_by text (flat_map words_of_piece pieces ++ words_after operands) None (value_not_mark text sound.0) (value_not_long text sound.0)
+    ∙ ap (with_part None text) (parts_of_words pieces operands sound.1)
+parts_of_words (apart given ∷ pieces) operands h =
     let sound = and_parts (is_name given.name) _ h in
-    let more : List Text = flat_map words_of_piece pieces ++ words_behind behind in
+    let more : List Text = flat_map words_of_piece pieces ++ words_after operands in
     parts_by (45 ∷ 45 ∷ given.name) (given.value ∷ more) (Some (given.name, None)) (apart_not_mark given.name sound.0) (long_apart given.name sound.0)
-    ∙ parts_value given.name given.value more ∙ ap (with_part (Some given.name) given.value) (parts_of_words pieces behind sound.1)
-parts_of_words (joined given ∷ pieces) behind h =
+    ∙ parts_value given.name given.value more ∙ ap (with_part (Some given.name) given.value) (parts_of_words pieces operands sound.1)
+parts_of_words (joined given ∷ pieces) operands h =
     let sound = and_parts (is_name given.name) _ h in
-    let more : List Text = flat_map words_of_piece pieces ++ words_behind behind in
+    let more : List Text = flat_map words_of_piece pieces ++ words_after operands in
     parts_by (45 ∷ 45 ∷ (given.name ++ 61 ∷ given.value)) more (Some (given.name, Some given.value)) (joined_not_mark given.name given.value) (long_joined given.name given.value sound.0)
-    ∙ ap (with_part (Some given.name) given.value) (parts_of_words pieces behind sound.1)
+    ∙ ap (with_part (Some given.name) given.value) (parts_of_words pieces operands sound.1)
 
 -- the pieces before are sound where the parts are
-front : (pieces : List Piece) (behind : Option (List Text)) → list_all is_sound (parts_from pieces behind) ≡ true → list_all (λ p. is_sound (part_of_piece p)) pieces ≡ true
-front [] behind h = refl
-front (p ∷ pieces) behind h =
-    let sound = and_parts (is_sound (part_of_piece p)) (list_all is_sound (parts_from pieces behind)) h in
-    rw sound.0 (front pieces behind sound.1)
+prefix : (pieces : List Piece) (operands : Option (List Text)) → list_all is_sound (parts_from pieces operands) ≡ true → list_all (λ p. is_sound (part_of_piece p)) pieces ≡ true
+prefix [] operands h = refl
+prefix (p ∷ pieces) operands h =
+    let sound = and_parts (is_sound (part_of_piece p)) (list_all is_sound (parts_from pieces operands)) h in
+    rw sound.0 (prefix pieces operands sound.1)
 
 pub parts_spelt : (line : Line) → list_all is_sound (parts_of line) ≡ true → parts_after None (words_of line) ≡ Some (parts_of line)
-parts_spelt line h = parts_of_words line.pieces line.behind (front line.pieces line.behind h)
+parts_spelt line h = parts_of_words line.pieces line.operands (prefix line.pieces line.operands h)

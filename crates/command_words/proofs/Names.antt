@@ -47,8 +47,8 @@ all_from p (name ∷ more) each =
 
 -- ---- the rules of a list of names
 
-behind : (name other : Text) (more : List Text) → list_any (λ o. bytes_eq o name) (other ∷ more) ≡ true → bytes_eq other name ≡ false → list_any (λ o. bytes_eq o name) more ≡ true
-behind name other more h e = elim (or_cases (bytes_eq other name) (list_any (λ o. bytes_eq o name) more) h) [
+operands : (name other : Text) (more : List Text) → list_any (λ o. bytes_eq o name) (other ∷ more) ≡ true → bytes_eq other name ≡ false → list_any (λ o. bytes_eq o name) more ≡ true
+operands name other more h e = elim (or_cases (bytes_eq other name) (list_any (λ o. bytes_eq o name) more) h) [
   | inl so ↦ absurd (true≢false (sym so ∙ e))
   | inr so ↦ so
 ]
@@ -57,14 +57,14 @@ long_in : (name : Text) (names : List Text) → list_any (λ o. bytes_eq o name)
 long_in name [] h = absurd (true≢false (sym h))
 long_in name (other ∷ more) h = elim (cases_Bool (bytes_eq other name)) [
   | inl e ↦ rw e (ap (λ t. Some (opt t)) (same_text other name e))
-  | inr e ↦ rw e (long_in name more (behind name other more h e))
+  | inr e ↦ rw e (long_in name more (operands name other more h e))
 ]
 
 id_in : (name : Text) (names : List Text) → list_any (λ o. bytes_eq o name) names ≡ true → arg_by_id (map opt names) name ≡ Some (opt name)
 id_in name [] h = absurd (true≢false (sym h))
 id_in name (other ∷ more) h = elim (cases_Bool (bytes_eq other name)) [
   | inl e ↦ rw e (ap (λ t. Some (opt t)) (same_text other name e))
-  | inr e ↦ rw e (id_in name more (behind name other more h e))
+  | inr e ↦ rw e (id_in name more (operands name other more h e))
 ]
 
 none_in : (name : Text) (names : List Text) → list_any (λ o. bytes_eq o name) names ≡ false → arg_by_long (map opt names) name ≡ None
@@ -81,15 +81,15 @@ pub record IsOption (name : Text) : Type 0 where
   pub other : bytes_eq name word_id ≡ false
   pub apart : bytes_eq word_id name ≡ false
 
-id_behind : (name : Text) (rs : List Rule) → bytes_eq word_id name ≡ false → arg_by_id rs name ≡ Some (opt name) → arg_by_id (word_rule ∷ rs) name ≡ Some (opt name)
-id_behind name rs apart e = rw apart e
+id_after : (name : Text) (rs : List Rule) → bytes_eq word_id name ≡ false → arg_by_id rs name ≡ Some (opt name) → arg_by_id (word_rule ∷ rs) name ≡ Some (opt name)
+id_after name rs apart e = rw apart e
 
 pub known : (name : Text) → names_option name ≡ true → IsOption name
 known name h =
     let apart : bytes_eq word_id name ≡ false = not_true (bytes_eq word_id name) (of_each (λ n. not (bytes_eq word_id n)) name option_names refl h) in
     record {
       long = long_in name option_names h;
-      id = id_behind name (map opt option_names) apart (id_in name option_names h);
+      id = id_after name (map opt option_names) apart (id_in name option_names h);
       other = not_true (bytes_eq name word_id) (of_each (λ n. not (bytes_eq n word_id)) name option_names refl h);
       apart = apart;
     }

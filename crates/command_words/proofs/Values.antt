@@ -99,28 +99,28 @@ word_first ((Some m, value) ∷ ps) name k e =
 
 -- ---- options of a row
 
-lawful_from : (of : List Text) (value : Text → Option Text) → ((name : Text) → names_option name ≡ true → may_have of name (value name) ≡ true)
+valid_from : (of : List Text) (value : Text → Option Text) → ((name : Text) → names_option name ≡ true → may_have of name (value name) ≡ true)
     → (rows : List Row) (ps : List Part) → fits rows ps ≡ true → ((name : Text) → bytes_eq word_id name ≡ false → has_row name rows ≡ false → value name ≡ first_of name (map part_row ps))
     → list_all (is_of of) (given_in ps) ≡ true
-lawful_from of value may rows [] f same = refl
-lawful_from of value may rows ((None, v) ∷ ps) f same =
+valid_from of value may rows [] f same = refl
+valid_from of value may rows ((None, v) ∷ ps) f same =
     let fit = fitting rows (None, v) ps f in
-    lawful_from of value may (rows ++ row word_id v ∷ []) ps fit.more (λ name other h.
+    valid_from of value may (rows ++ row word_id v ∷ []) ps fit.more (λ name other h.
     let before = or_parts (has_row name rows) (bytes_eq word_id name) (sym (has_row-push name rows (row word_id v)) ∙ h) in
     let skip : first_of name (map part_row ((None, v) ∷ ps)) ≡ first_of name (map part_row ps) = rw other refl in
     same name other before.0 ∙ skip)
-lawful_from of value may rows ((Some m, v) ∷ ps) f same =
+valid_from of value may rows ((Some m, v) ∷ ps) f same =
     let fit = fitting rows (Some m, v) ps f in
     let first : first_of m (map part_row ((Some m, v) ∷ ps)) ≡ Some v = rw (itself m) refl in
     let here : may_have of m (Some v) ≡ true = subst (λ o. may_have of m o ≡ true) (same m (known m fit.known).apart fit.fresh ∙ first) (may m fit.known) in
-    let rest = lawful_from of value may (rows ++ row m v ∷ []) ps fit.more (λ name other h.
+    let rest = valid_from of value may (rows ++ row m v ∷ []) ps fit.more (λ name other h.
     let before = or_parts (has_row name rows) (bytes_eq m name) (sym (has_row-push name rows (row m v)) ∙ h) in
     let skip : first_of name (map part_row ((Some m, v) ∷ ps)) ≡ first_of name (map part_row ps) = rw before.1 refl in
     same name other before.0 ∙ skip) in
     rw here rest
 
-pub lawful : (of : List Text) (ps : List Part) → fits [] ps ≡ true → has_only of (map part_row ps) ≡ true → list_all (is_of of) (given_in ps) ≡ true
-lawful of ps f only = lawful_from of (λ name. first_of name (map part_row ps))
+pub valid : (of : List Text) (ps : List Part) → fits [] ps ≡ true → has_only of (map part_row ps) ≡ true → list_all (is_of of) (given_in ps) ≡ true
+valid of ps f only = valid_from of (λ name. first_of name (map part_row ps))
     (λ name h. of_each (λ n. may_have of n (first_of n (map part_row ps))) name option_names only h) [] ps f (λ name other h. refl)
 
 pub may_from : (of : List Text) (name : Text) (given : List Given) → list_all (is_of of) given ≡ true → may_have of name (value_of name given) ≡ true

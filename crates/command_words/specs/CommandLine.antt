@@ -21,20 +21,20 @@ pub data Piece : Type 0 where
 -- pieces, and after them the arguments after an argument `--` if there is one
 pub record Line : Type 0 where
   pub pieces : List Piece
-  pub behind : Option (List Text)
+  pub operands : Option (List Text)
 
 abbrev pub words_of_piece : Piece → List Text
 words_of_piece (word text) = text ∷ []
 words_of_piece (apart given) = (codes "--" ++ given.name) ∷ given.value ∷ []
 words_of_piece (joined given) = (codes "--" ++ given.name ++ 61 ∷ given.value) ∷ []
 
-abbrev pub words_behind : Option (List Text) → List Text
-words_behind None = []
-words_behind (Some words) = codes "--" ∷ words
+abbrev pub words_after : Option (List Text) → List Text
+words_after None = []
+words_after (Some words) = codes "--" ∷ words
 
 -- the arguments that spell a line
 abbrev pub words_of : Line → List Text
-words_of line = flat_map words_of_piece line.pieces ++ words_behind line.behind
+words_of line = flat_map words_of_piece line.pieces ++ words_after line.operands
 
 abbrev pub command_word_of : Piece → Option Text
 command_word_of (word text) = Some text
@@ -48,7 +48,7 @@ option_of (joined given) = Some given
 
 -- after `--` every argument is a command word
 abbrev pub command_words : Line → List Text
-command_words line = filter_map command_word_of line.pieces ++ unwrap_or line.behind []
+command_words line = filter_map command_word_of line.pieces ++ unwrap_or line.operands []
 
 abbrev pub options : Line → List Given
 options line = filter_map option_of line.pieces

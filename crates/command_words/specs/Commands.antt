@@ -76,7 +76,7 @@ pub record AskFor (words : List Text) (a : Asked) : Type 0 where
   pub spelt : words ≡ words_of line
   pub command : command_words line ≡ name_of a ∷ []
   pub once : IsOnce (options line)
-  pub lawful : list_all (is_of (row_of a)) (options line) ≡ true
+  pub valid : list_all (is_of (row_of a)) (options line) ≡ true
   pub says : Says (λ name. value_of name (options line)) a
 
 -- a command's limit, where it has one, is in its range

@@ -1,6 +1,6 @@
 //! Which nets a station denies, and how often a client may ask.
 ghost use Rattle.std.specs.Prelude.{◌≡◌, IfOk};
-ghost use Rattle.station_config.specs.Station.{gate_of};
+ghost use Rattle.station_values.specs.Station.{gate_of};
 
 use crate::key_tests::push_keys;
 use crate::tests::{
@@ -8,7 +8,7 @@ use crate::tests::{
 };
 use kiss_gate::{ClientGate, GateOpen};
 use reply_core::Code;
-use station_config::Station;
+use station_values::Station;
 use std::alloc::Global;
 use std::process::Abort;
 use tick_units::Local;

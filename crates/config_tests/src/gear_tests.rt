@@ -2,16 +2,16 @@
 //! one station has none, and one no leap second file.
 ghost use Rattle.std.specs.Prelude.{◌≡◌, ◌∷◌, List, map, IfOk};
 ghost use Rattle.std.specs.Option.{option_to_list};
-ghost use Rattle.feed_link.specs.Openings.{MakesOpenings, Visit};
-ghost use Rattle.feed_link.specs.Openings.Wanted.{LogOf};
+ghost use Rattle.outside_traits.specs.Openings.{MakesOpenings, Visit};
+ghost use Rattle.outside_traits.specs.Openings.Wanted.{LogOf};
 ghost use Rattle.station_gear.specs.Gears.{IsEmptyFor, wanted_by};
 ghost use Rattle.station_gear.specs.Opens.{failing_of};
 
 use crate::tests::{same, station_of};
-use feed_link::{Address, Failed, Hearing, Link, OpenGate, Outside, Source};
 use memory_outside::{MemoryLink, MemoryOutside, MemorySource, NamedLog, Planned};
-use station_config::Station;
+use outside_traits::{Address, Failed, Hearing, Link, OpenGate, Outside, Source};
 use station_gear::{Gear, Missing, give_back_gear, open_gear};
+use station_values::Station;
 use std::alloc::Global;
 use std::process::Abort;
 use tick_units::Local;
@@ -199,7 +199,7 @@ fn read_leap<L: Source + Drop>(leap: &mut Option<L>, seen: &mut String)
     }
 }
 
-fn hear_links<T: Link + Drop>(links: &mut Vec<T>, seen: &mut String)
+fn receive_on_links<T: Link + Drop>(links: &mut Vec<T>, seen: &mut String)
     ensures { map (λ link. T.opening link) links.new.items ≡ map (λ link. T.opening link) links.old.items }
 {
     for place in 0..links.len() {
@@ -221,8 +221,8 @@ fn visit_gear<O: Outside>(
     let opened = open_gear(outside, station, &mut gear);
     read_logs(&mut gear.logs, seen);
     read_leap(&mut gear.leap, seen);
-    hear_links(&mut gear.servers, seen);
-    hear_links(&mut gear.links, seen);
+    receive_on_links(&mut gear.servers, seen);
+    receive_on_links(&mut gear.links, seen);
     give_back_gear(outside, gear);
     opened
 }
@@ -366,7 +366,7 @@ fn it_stops_at_the_first_that_fails(rt: HostRuntime) {
 }
 
 #[test]
-fn a_leap_second_file_is_opened_behind_the_logs(rt: HostRuntime) {
+fn a_leap_second_file_is_opened_after_the_logs(rt: HostRuntime) {
     let seen = "66 65 76 31 32 33 ";
     opens_all(&rt, rt.alloc(), LISTED, ALL_LISTED, seen);
 }

@@ -1,6 +1,6 @@
 //! The keys of a station file, valid ones and faulty ones.
 use crate::tests::{are_right, are_right_between, has_answer, push_times, same, station_of};
-use station_config::Station;
+use station_values::Station;
 use std::alloc::Global;
 use std::process::Abort;
 

@@ -1,6 +1,6 @@
 //! Station files, valid ones and faulty ones, and the result of each.
-use station_config::Station;
-use station_reader::{KeyText, StationFault, read_station};
+use station_config::{KeyText, StationFault, read_station};
+use station_values::Station;
 use std::alloc::Global;
 use std::fmt::Debug;
 use std::process::Abort;

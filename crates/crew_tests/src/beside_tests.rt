@@ -1,13 +1,11 @@
 //! Workers that need one another: each station here is served only where its feeds and its links run side by side.
 
-use crate::checks::{
-    WHOLE, has_entries, has_held_once, has_listed, have_heard, have_polled, holds,
-};
+use crate::checks::{WHOLE, has_entries, has_held_once, has_listed, have_polled, have_read, holds};
 use crate::fakes::{ANSWERED, ASKED};
 use crate::stations::{CASE, Case, Done, LINK, RADIO, SECOND_LINK, SERVER, left_held, left_with};
-use feed_link::Gate;
 use feed_workers::{PollEnd, PollWork};
 use memory_outside::HoldGate;
+use outside_traits::Gate;
 use station_crew::Budget;
 use std::alloc::Global;
 use std::process::Abort;
@@ -136,7 +134,7 @@ fn keeps_after<R: Abort + Threads + Wait + Sync>(
     let ended = left_held(rt, alloc, case, &gate);
     has_held_once(rt, &gate);
     has_entries(rt, &ended, entries);
-    have_heard(rt, &ended, &[WHOLE]);
+    have_read(rt, &ended, &[WHOLE]);
     has_listed(rt, &ended, Some(WHOLE));
     let first = place_of(rt, &ended.journal, other);
     let later = place_of(rt, &ended.journal, held);

@@ -2,10 +2,10 @@
 
 use crate::fakes::CLIENT;
 use crate::stations::Done;
-use feed_link::Address;
 use feed_workers::{LogEnd, LogWork, PollWork};
 use journal_entry::{ENTRY_ROOM, Entry, write_entry};
 use memory_outside::{HoldGate, LinkEvent, MemoryLink};
+use outside_traits::Address;
 use responder::{End, Served};
 use station_crew::LinkWork;
 use std::alloc::Global;
@@ -61,7 +61,7 @@ pub fn same_count(rt: &impl Abort, name: &str, left: usize, right: usize) {
 }
 
 /// The radios have done this.
-pub fn have_heard(rt: &impl Abort, ended: &Done, want: &[LogWork]) {
+pub fn have_read(rt: &impl Abort, ended: &Done, want: &[LogWork]) {
     same(rt, ended.work.radios.as_slice(), want);
 }
 

@@ -1,7 +1,7 @@
 //! Logs and links in memory, stated by constants.
 
-use feed_link::Address;
 use memory_outside::{ANSWER, MemoryLink, MemorySource, NOON_0, Planned, REQUEST};
+use outside_traits::Address;
 use std::alloc::Global;
 use std::process::Abort;
 use tick_units::Local;
@@ -25,7 +25,7 @@ pub struct Datagram<'a> {
 #[derive(Clone, Copy)]
 pub struct Wire<'a> {
     pub moment: u32,
-    pub hears: &'a [Datagram<'a>],
+    pub receives: &'a [Datagram<'a>],
     pub fails: u64,
 }
 
@@ -40,29 +40,29 @@ pub const ASKS: Datagram<'static> = Datagram {
 /// A link that receives nothing but its end, and one that receives a request, and so on.
 pub const WIRE: Wire<'static> = Wire {
     moment: 0,
-    hears: &[],
+    receives: &[],
     fails: 0,
 };
 
 pub const ASKED: Wire<'static> = Wire {
-    hears: &[ASKS],
+    receives: &[ASKS],
     ..WIRE
 };
 
 pub const ASKED_2: Wire<'static> = Wire {
-    hears: &[ASKS, ASKS],
+    receives: &[ASKS, ASKS],
     ..WIRE
 };
 
 pub const ASKED_3: Wire<'static> = Wire {
-    hears: &[ASKS, ASKS, ASKS],
+    receives: &[ASKS, ASKS, ASKS],
     ..WIRE
 };
 
 /// A link whose first moment is 1 s, over which a server answers.
 pub const ANSWERED: Wire<'static> = Wire {
     moment: 1_000_000,
-    hears: &[Datagram {
+    receives: &[Datagram {
         from: Address {
             ip: 0x7f00_0001,
             port: 123,
@@ -102,7 +102,7 @@ fn alone<T: Drop>(alloc: Global, item: T) -> Vec<T> {
 /// The link that is stated.
 pub fn link_of(rt: &impl Abort, alloc: Global, wire: &Wire<'_>) -> MemoryLink {
     let mut hearings = Vec::new(alloc);
-    for datagram in wire.hears {
+    for datagram in wire.receives {
         let _ = hearings.push(datagram_of(alloc, datagram));
     }
     let moments = alone(alloc, moment(wire.moment));

@@ -4,7 +4,7 @@
 use crate::checks::{ONE, REPLY, Reply, TWO, has_sent, have_served};
 use crate::fakes::{ASKS, CLIENT, Datagram, WIRE, Wire};
 use crate::stations::{CASE, Case, LINK, SECOND_LINK, left};
-use feed_link::Address;
+use outside_traits::Address;
 use responder::Served;
 use station_crew::{Budget, LinkWork};
 
@@ -41,7 +41,7 @@ const PHASES: Case<'static> = Case {
         after: 3,
     },
     links: &[Wire {
-        hears: &[
+        receives: &[
             AT_303,
             Datagram {
                 from: DENIED,
@@ -97,7 +97,7 @@ fn the_gate_goes_on_from_phase_to_phase(rt: HostRuntime) {
 }
 
 const ONCE: Wire<'static> = Wire {
-    hears: &[AT_303],
+    receives: &[AT_303],
     ..WIRE
 };
 
@@ -128,7 +128,7 @@ const ROOM_FOR_TWO: Case<'static> = Case {
         after: 0,
     },
     links: &[Wire {
-        hears: &[
+        receives: &[
             AT_303,
             Datagram {
                 from: NEIGHBOUR,

@@ -112,7 +112,7 @@ fn is_sealed<R: Abort + Threads + Wait + Sync>(rt: &R, alloc: Global, row: &Seal
             leap: None,
             servers: &[],
             links: &[Wire {
-                hears: &[asks, asks],
+                receives: &[asks, asks],
                 ..WIRE
             }],
         },

@@ -1,6 +1,6 @@
 //! Stations with a leap second file: the rows are those of `leap-seconds.list` for the leap seconds at the ends of June 2015 and of 2016.
 
-use crate::checks::{FULL, WHOLE, has_entries, has_lines, has_listed, have_heard, holds};
+use crate::checks::{FULL, WHOLE, has_entries, has_lines, has_listed, have_read, holds};
 use crate::stations::{CASE, Case, RADIO, left};
 use feed_workers::{LogEnd, LogWork};
 
@@ -30,10 +30,10 @@ const WITH_RADIO: Case<'static> = Case {
 };
 
 #[test]
-fn its_feed_stands_behind_the_radios(rt: HostRuntime) {
+fn its_feed_stands_after_the_radios(rt: HostRuntime) {
     let ended = left(&rt, rt.alloc(), &WITH_RADIO);
     has_lines(&rt, rt.alloc(), &ended, "1 0 notice 3692217600\n");
-    have_heard(&rt, &ended, &[WHOLE]);
+    have_read(&rt, &ended, &[WHOLE]);
 }
 
 const SKIPPING: Case<'static> = Case {
@@ -73,7 +73,7 @@ const EMPTY: Case<'static> = Case {
 };
 
 #[test]
-fn an_empty_list_tells_nothing(rt: HostRuntime) {
+fn an_empty_list_reports_nothing(rt: HostRuntime) {
     let ended = left(&rt, rt.alloc(), &EMPTY);
     has_entries(&rt, &ended, 0);
     has_listed(&rt, &ended, Some(WHOLE));

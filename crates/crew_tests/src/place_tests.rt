@@ -4,8 +4,8 @@
 use crate::checks::{NONE, ONE, REPLY, Reply, has_entries, has_first, has_sent, holds, same_count};
 use crate::fakes::{ASKED, ASKS, WIRE, Wire};
 use crate::stations::{CASE, Case, LINK, RADIO, left_held, left_with};
-use feed_link::Gate;
 use memory_outside::HoldGate;
+use outside_traits::Gate;
 use responder::{End, Served};
 use station_crew::Budget;
 use std::alloc::Global;
@@ -189,7 +189,7 @@ fn comes_to_3<R: Abort + Threads + Wait + Sync>(
         limit: 1,
         budget: ONE_EACH,
         links: &[Wire {
-            hears: &[ASKS],
+            receives: &[ASKS],
             fails,
             ..WIRE
         }],

@@ -7,13 +7,13 @@ ghost use Rattle.crew_work.specs.Served.{AreBlank};
 ghost use Rattle.tick_units.specs.declared.marks.Plan.TheVariants.{Dcf};
 
 use crate::fakes::{Wire, link_of, minutes, source_of};
-use feed_link::{Gate, OpenGate};
 use memory_outside::{HoldGate, MemoryLink, MemorySource};
+use outside_traits::{Gate, OpenGate};
 use radio_receiver::{BoxedReceiver, DcfReceiver, Receiver};
-use station_config::Station;
-use station_crew::{Budget, Ended, Kit, Orders, serve_station};
+use station_crew::{Budget, Ended, Equipment, Orders, serve_station};
 use station_gear::Gear;
 use station_reader::read_station;
+use station_values::Station;
 use std::alloc::{AllocError, Global};
 use std::process::Abort;
 use std::sync::Wait;
@@ -166,8 +166,8 @@ fn serve_with<R: Abort + Threads + Wait + Sync, G: Gate>(
     if gear.links.len() != station.links() {
         panic!(*rt; "links");
     }
-    let kit = Kit { receivers, gear };
-    match serve_station(rt, alloc, gate, station, orders, kit) {
+    let equipment = Equipment { receivers, gear };
+    match serve_station(rt, alloc, gate, station, orders, equipment) {
         Ok(ended) => ended,
         Err(_) => panic!(*rt; "no memory"),
     }

@@ -1,8 +1,8 @@
 //! Stations in both phases.
 
 use crate::checks::{
-    FULL, ONE, REPLY, Reply, TWO, WHOLE, has_entries, has_events, has_lines, has_sent, have_heard,
-    have_polled, have_served,
+    FULL, ONE, REPLY, Reply, TWO, WHOLE, has_entries, has_events, has_lines, has_sent, have_polled,
+    have_read, have_served,
 };
 use crate::fakes::{ANSWERED, ASKED, ASKED_2, ASKED_3, ASKS, WIRE, Wire};
 use crate::stations::{CASE, Case, LINK, RADIO, SECOND_LINK, SERVER, left, left_held};
@@ -60,7 +60,7 @@ fn a_link_is_answered_in_both_phases(rt: HostRuntime) {
     let gate = HoldGate::new(0, 1, 100, 3, 1, 1_000_000_000);
     let ended = left_held(&rt, rt.alloc(), &SIX_MINUTES, &gate);
     has_entries(&rt, &ended, 6);
-    have_heard(&rt, &ended, &[WHOLE]);
+    have_read(&rt, &ended, &[WHOLE]);
     have_served(&rt, &ended, &[TWICE]);
     has_sent(&rt, &ended, 0, &[NO_TIME, TIME]);
 }
@@ -90,7 +90,7 @@ const NO_FEEDS: Case<'static> = Case {
         after: 1,
     },
     links: &[Wire {
-        hears: &[ASKS; 5],
+        receives: &[ASKS; 5],
         ..WIRE
     }],
     ..CASE
@@ -100,7 +100,7 @@ const NO_FEEDS: Case<'static> = Case {
 fn a_station_without_feeds_is_served(rt: HostRuntime) {
     let ended = left(&rt, rt.alloc(), &NO_FEEDS);
     has_entries(&rt, &ended, 0);
-    have_heard(&rt, &ended, &[]);
+    have_read(&rt, &ended, &[]);
     have_polled(&rt, &ended, &[]);
     have_served(
         &rt,
@@ -120,10 +120,10 @@ const ROOM_FOR_ONE: Case<'static> = Case {
 };
 
 #[test]
-fn a_full_journal_keeps_a_front(rt: HostRuntime) {
+fn a_full_journal_keeps_a_prefix(rt: HostRuntime) {
     let ended = left(&rt, rt.alloc(), &ROOM_FOR_ONE);
     has_lines(&rt, rt.alloc(), &ended, LONE);
-    have_heard(&rt, &ended, &[FULL]);
+    have_read(&rt, &ended, &[FULL]);
 }
 
 const TWO_LINKS: Case<'static> = Case {

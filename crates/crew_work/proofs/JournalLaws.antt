@@ -11,7 +11,7 @@ use Rattle.journal_entry.specs.declared.entry.Entry.{Entry}
 use Rattle.journal_entry.specs.declared.numbered.Numbered.{Numbered}
 use Rattle.page_cell.specs.Claims.{of_feed, page_at}
 use Rattle.system_fold.specs.Ends.{is_above}
-use Rattle.system_fold.specs.Fields.{page_dispersion, page_from, told_by}
+use Rattle.system_fold.specs.Fields.{page_dispersion, page_from, synchronised_by}
 use Rattle.system_fold.specs.Inputs.{inputs_of}
 use Rattle.system_fold.specs.Numbered.{numbered, numbered_after}
 use Rattle.system_fold.specs.Page.{page_by, page_of}
@@ -68,7 +68,7 @@ counted : (k : ℕ) (j : List Entry) → All (IsKept k) j → length j ≡ sum_b
 counted k [] all = sym (no_counts 0 k)
 counted k (e ∷ j) all =
     let rest = counted k j (All-tail (IsKept k) e j all) in
-    let feed = (All-head (IsKept k) e j all).lawful.feed in
+    let feed = (All-head (IsKept k) e j all).valid.feed in
     let one = of_one_feed e 0 k (omega arith) (omega (arith, feed)) in
     sym (counts_more e j 0 k ∙ omega (arith, rest, one))
 
@@ -77,9 +77,9 @@ pub feeds-counted : (settings : SettingsFields) (journal : List Entry) → IsJou
 feeds-counted settings journal all = counted (length settings.sources) journal all
 
 -- the first entries of a list and one after them
-front_and_one : (before : List Entry) (e : Entry) (more : List Entry) → take (suc (length before)) (before ++ e ∷ more) ≡ before ++ e ∷ []
-front_and_one [] e more = refl
-front_and_one (b ∷ before) e more = ap (λ l. b ∷ l) (front_and_one before e more)
+prefix_and_one : (before : List Entry) (e : Entry) (more : List Entry) → take (suc (length before)) (before ++ e ∷ more) ≡ before ++ e ∷ []
+prefix_and_one [] e more = refl
+prefix_and_one (b ∷ before) e more = ap (λ l. b ∷ l) (prefix_and_one before e more)
 
 abbrev line : SettingsFields → List Entry → ℕ × Entry → Numbered
 line s journal k = record { length = k.0 + 1; rate = (page_at s journal (k.0 + 1)).rate; entry = k.1 }
@@ -89,7 +89,7 @@ unfolding page_at
 numbered_rest s journal before [] is = refl
 numbered_rest s journal before (e ∷ more) is =
     let one : length before + 1 ≡ suc (length before) = omega arith in
-    let rate : (page_at s journal (length before + 1)).rate ≡ (page_of s (before ++ e ∷ [])).rate = ap (λ l. (page_of s l).rate) (ap (λ k. take k journal) one ∙ ap (take (suc (length before))) is ∙ front_and_one before e more) in
+    let rate : (page_at s journal (length before + 1)).rate ≡ (page_of s (before ++ e ∷ [])).rate = ap (λ l. (page_of s l).rate) (ap (λ k. take k journal) one ∙ ap (take (suc (length before))) is ∙ prefix_and_one before e more) in
     let count : length before + 1 ≡ length (before ++ e ∷ []) = sym (length-append before (e ∷ [])) in
     let rest = numbered_rest s journal (before ++ e ∷ []) more (is ∙ sym (append_assoc before (e ∷ []) more)) in
     (λ i. record { length = length before + 1; rate = rate i; entry = e } ∷ map (line s journal) (enumerate_from (length before + 1) more))
@@ -102,7 +102,7 @@ numbered-same settings journal = numbered_rest settings journal [] journal refl
 page_from-length : (inputs : PageInputs) (sources : List Source) (offset : ℤ) → (page_from inputs sources offset).length ≡ inputs.length
 unfolding page_from
 page_from-length inputs [] offset = refl
-page_from-length inputs (peer ∷ others) offset = either_way (is_above inputs.bound (page_dispersion inputs.moment peer) 0) (unsynchronised inputs.length inputs.moment) (told_by inputs peer others offset) refl refl
+page_from-length inputs (peer ∷ others) offset = either_way (is_above inputs.bound (page_dispersion inputs.moment peer) 0) (unsynchronised inputs.length inputs.moment) (synchronised_by inputs peer others offset) refl refl
   where
     either_way : (b : Bool) (p q : PageFields) → p.length ≡ inputs.length → q.length ≡ inputs.length → (if b then p else q).length ≡ inputs.length
     either_way true p q one two = one

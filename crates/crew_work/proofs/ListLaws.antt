@@ -8,15 +8,15 @@ use Rattle.std.proofs.lemmas.Bool.{true≢false}
 use Rattle.std.proofs.lemmas.Option.{get_or_from_slice_get}
 use Rattle.std.proofs.Math.Seq.{take-length}
 use Rattle.std.proofs.lemmas.List.Elements.{All-nil, All-cons, All-head, All-tail, All-push, All-weaker}
-use Rattle.crew_work.specs.Lists.{Both, Each, Pairs, PairsFront}
-use Rattle.station_config.specs.Station.{leap_feeds}
+use Rattle.crew_work.specs.Lists.{Both, Each, Pairs, PairsPrefix}
+use Rattle.station_values.specs.Station.{leap_feeds}
 
-pub told_more : {J : Type 0} (seen : J → ℕ) (xs : List J) (i a b : ℕ) (d : J) → i < length xs → a ≤ b → seen (get_or xs i d) ≤ b → All (λ j. seen j ≤ a) (take i xs) → All (λ j. seen j ≤ b) (take (i + 1) xs)
-told_more seen xs i a b d lt le one all =
+pub reported_more : {J : Type 0} (seen : J → ℕ) (xs : List J) (i a b : ℕ) (d : J) → i < length xs → a ≤ b → seen (get_or xs i d) ≤ b → All (λ j. seen j ≤ a) (take i xs) → All (λ j. seen j ≤ b) (take (i + 1) xs)
+reported_more seen xs i a b d lt le one all =
     subst (All (λ j. seen j ≤ b)) (sym (take_more xs i d lt)) (All-push (λ j. seen j ≤ b) (take i xs) (get_or xs i d) (All-weaker (λ j. seen j ≤ a) (λ j. seen j ≤ b) (λ j h. omega arith) (take i xs) all) one)
 
-pub told_all : {J : Type 0} (P : J → Type 0) (xs : List J) (i : ℕ) → i ≡ length xs → All P (take i xs) → All P xs
-told_all P xs i e all = subst (All P) (ap (λ n. take n xs) e ∙ take-length xs) all
+pub reported_all : {J : Type 0} (P : J → Type 0) (xs : List J) (i : ℕ) → i ≡ length xs → All P (take i xs) → All P xs
+reported_all P xs i e all = subst (All P) (ap (λ n. take n xs) e ∙ take-length xs) all
 
 pub same_set : {J : Type 0} (xs : List J) (i : ℕ) (d x : J) → x ≡ get_or xs i d → slice_set xs i x ≡ xs
 same_set xs i d x e = ap (λ y. slice_set xs i y) e ∙ set-get_or xs i d
@@ -28,18 +28,18 @@ pairs_more belong [] (b ∷ ys) x y p one = absurd p
 pairs_more belong (a ∷ xs) [] x y p one = absurd p
 pairs_more belong (a ∷ xs) (b ∷ ys) x y p one = (p.0, pairs_more belong xs ys x y p.1 one)
 
-pub front_none : {X Y : Type 0} (belong : X → Y → Type 0) (all : List X) (ys : List Y) → ys ≡ [] → PairsFront belong all all ys
-front_none belong all ys none = record { front = []; is = refl; pairs = subst (λ l. Pairs belong [] l) (sym none) tt }
+pub prefix_none : {X Y : Type 0} (belong : X → Y → Type 0) (all : List X) (ys : List Y) → ys ≡ [] → PairsPrefix belong all all ys
+prefix_none belong all ys none = record { prefix = []; is = refl; pairs = subst (λ l. Pairs belong [] l) (sym none) tt }
 
-pub front_more : {X Y : Type 0} (belong : X → Y → Type 0) (all rest more : List X) (ys zs : List Y) (x : X) (y : Y) → rest ≡ x ∷ more → zs ≡ ys ++ y ∷ [] → PairsFront belong all rest ys → belong x y → PairsFront belong all more zs
-front_more belong all rest more ys zs x y split pushed p one = record {
-  front = p.front ++ x ∷ [];
-  is = append_assoc p.front (x ∷ []) more ∙ ap (λ l. p.front ++ l) (sym split) ∙ p.is;
-  pairs = subst (λ l. Pairs belong (p.front ++ x ∷ []) l) (sym pushed) (pairs_more belong p.front ys x y p.pairs one);
+pub prefix_more : {X Y : Type 0} (belong : X → Y → Type 0) (all rest more : List X) (ys zs : List Y) (x : X) (y : Y) → rest ≡ x ∷ more → zs ≡ ys ++ y ∷ [] → PairsPrefix belong all rest ys → belong x y → PairsPrefix belong all more zs
+prefix_more belong all rest more ys zs x y split pushed p one = record {
+  prefix = p.prefix ++ x ∷ [];
+  is = append_assoc p.prefix (x ∷ []) more ∙ ap (λ l. p.prefix ++ l) (sym split) ∙ p.is;
+  pairs = subst (λ l. Pairs belong (p.prefix ++ x ∷ []) l) (sym pushed) (pairs_more belong p.prefix ys x y p.pairs one);
 }
 
-pub front_whole : {X Y : Type 0} (belong : X → Y → Type 0) (all rest : List X) (ys : List Y) → rest ≡ [] → PairsFront belong all rest ys → Pairs belong all ys
-front_whole belong all rest ys none p = subst (λ l. Pairs belong l ys) (sym (append-nil p.front) ∙ ap (λ l. p.front ++ l) (sym none) ∙ p.is) p.pairs
+pub prefix_whole : {X Y : Type 0} (belong : X → Y → Type 0) (all rest : List X) (ys : List Y) → rest ≡ [] → PairsPrefix belong all rest ys → Pairs belong all ys
+prefix_whole belong all rest ys none p = subst (λ l. Pairs belong l ys) (sym (append-nil p.prefix) ∙ ap (λ l. p.prefix ++ l) (sym none) ∙ p.is) p.pairs
 
 pub pairs_length : {X Y : Type 0} (belong : X → Y → Type 0) (xs : List X) (ys : List Y) → Pairs belong xs ys → length ys ≡ length xs
 pairs_length belong [] [] p = refl
@@ -75,7 +75,7 @@ snoc_view {X = X} (x ∷ xs) = go (snoc_view xs)
     go (inl e) = inr ([], x, ap (λ l. x ∷ l) e)
     go (inr (r, y, e)) = inr (x ∷ r, y, ap (λ l. x ∷ l) e)
 
-pub last_same : {X : Type 0} (front back : List X) (e x : X) → front ++ e ∷ [] ≡ back ++ x ∷ [] → e ≡ x
+pub last_same : {X : Type 0} (prefix back : List X) (e x : X) → prefix ++ e ∷ [] ≡ back ++ x ∷ [] → e ≡ x
 last_same [] [] e x q = ap (λ l. get_or l 0 e) q
 last_same [] (b ∷ bs) e x q = absurd (let n = ap length q in omega (arith, length-append bs (x ∷ [])))
 last_same (a ∷ cs) [] e x q = absurd (let n = ap length q in omega (arith, length-append cs (e ∷ [])))
@@ -160,8 +160,8 @@ first_removed (y ∷ xs) x is lt = ap (λ z. z ∷ xs) (sym is)
 pub take_one_more : {X : Type 0} (xs ys : List X) (n : ℕ) (x : X) → n < length xs → slice_get xs n ≡ Some x → ys ≡ take n xs → ys ++ x ∷ [] ≡ take (n + 1) xs
 take_one_more xs ys n x lt at e = ap (λ l. l ++ x ∷ []) e ∙ ap (λ z. take n xs ++ z ∷ []) (sym (get_or_from_slice_get xs n x x at)) ∙ sym (take_more xs n x lt)
 
-pub told_whole : {X : Type 0} (xs : List X) (n : ℕ) → n ≡ length xs → take n xs ≡ xs
-told_whole xs n e = ap (λ k. take k xs) e ∙ take-length xs
+pub reported_whole : {X : Type 0} (xs : List X) (n : ℕ) → n ≡ length xs → take n xs ≡ xs
+reported_whole xs n e = ap (λ k. take k xs) e ∙ take-length xs
 
 pub pairs_none : {X Y : Type 0} (belong : X → Y → Type 0) (xs : List X) (ys : List Y) → length xs ≡ 0 → ys ≡ [] → Pairs belong xs ys
 pairs_none belong [] ys n e = subst (λ l. Pairs belong [] l) (sym e) tt

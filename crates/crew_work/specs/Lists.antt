@@ -24,7 +24,7 @@ Both belong (Some x) None = ⊥
 Both belong (Some x) (Some y) = belong x y
 
 -- the same of a beginning of a list, of which the rest is still to come
-pub record PairsFront {X Y : Type 0} (belong : X → Y → Type 0) (all rest : List X) (ys : List Y) : Type 0 where
-  pub front : List X
-  pub is : front ++ rest ≡ all
-  pub pairs : Pairs belong front ys
+pub record PairsPrefix {X Y : Type 0} (belong : X → Y → Type 0) (all rest : List X) (ys : List Y) : Type 0 where
+  pub prefix : List X
+  pub is : prefix ++ rest ≡ all
+  pub pairs : Pairs belong prefix ys

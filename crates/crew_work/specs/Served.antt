@@ -1,7 +1,7 @@
 -- What the radios, the servers, the leap second file and the links of a station leave, by its journal. All of it is this project's own.
 use Rattle.std.specs.Prelude.{◌≡◌, ◌≢◌, ℕ, ◌+◌, ◌*◌, ◌<◌, ◌≤◌, Bool, Option, List, [], ◌++◌, All, Some, None, length, map, slice_index_or, take}
 use Rattle.std.specs.List.{flat_map, sum_by}
-use Rattle.feed_link.specs.Told.{SourceState, LinkState, NetEvent, Adds}
+use Rattle.outside_traits.specs.States.{SourceState, LinkState, NetEvent, Adds}
 use Rattle.feed_workers.specs.Leaps.{EndsLeap, due_leap, most_of_a_list}
 use Rattle.feed_workers.specs.Logs.{EndsLog}
 use Rattle.log_decoder.specs.Decoding.{most_of_a_log}
@@ -18,7 +18,7 @@ use Rattle.responder.specs.Serving.{EndsBy}
 use Rattle.responder.specs.Turns.{Turn, Reading, events_of, readings_of, AreTurns, answered_of, dropped_of, torn_of, kissed_of, unkept_of, Rises}
 use Rattle.responder.specs.declared.served.End.TheVariants.{Count}
 use Rattle.responder.specs.declared.served.Served.{Served}
-use Rattle.station_config.specs.Station.{RadioFields, ServerFields, StationFields, gate_of, settings_of}
+use Rattle.station_values.specs.Station.{RadioFields, ServerFields, StationFields, gate_of, settings_of}
 use Rattle.crew_work.specs.Due.{HasDue}
 use Rattle.crew_work.specs.Lists.{Pairs}
 use Rattle.crew_work.specs.declared.work.Budget.{Budget}
@@ -41,7 +41,7 @@ pub record IsJournalOf (settings : SettingsFields) (limit : ℕ) (journal : Stat
   pub settings_are : journal.settings ≡ settings
   pub limit_is : journal.limit ≡ limit
   pub within : length journal.entries ≤ limit
-  pub lawful : IsJournal settings journal.entries
+  pub valid : IsJournal settings journal.entries
 
 -- what a log or a link shows: its state, and the number of its opening
 pub record Sight (T S : Type 0) : Type 0 where
@@ -73,7 +73,7 @@ abbrev pub column_after : Column → ℕ → Column
 column_after column places = record column { feed = column.feed + places }
 
 -- these bytes were read of a radio's log, and the journal has the entries that are due for them
-pub record HearsRadio (radio : RadioFields) (column : Column) (log log_now : SourceState) (work : LogWork) : Type 0 where
+pub record ReadsRadio (radio : RadioFields) (column : Column) (log log_now : SourceState) (work : LogWork) : Type 0 where
   pub bytes : List ℕ
   pub ends : EndsLog most_of_a_log log log_now bytes work.end
   pub due : HasDue column.limit column.journal column.feed work.full (due_log column.feed radio.plan radio.delay bytes)
@@ -81,7 +81,7 @@ pub record HearsRadio (radio : RadioFields) (column : Column) (log log_now : Sou
 -- a server's link has these events more, which are those of its polls, and the journal has the entries that are due for them
 pub record AsksServer (server : ServerFields) (column : Column) (link link_now : LinkState) (work : PollWork) : Type 0 where
   pub events : List NetEvent
-  pub told : Adds link.events link_now.events events
+  pub reported : Adds link.events link_now.events events
   pub ends : EndsPolls server.address server.polls link.faults link_now.faults events work.end
   pub due : HasDue column.limit column.journal column.feed work.full (due_link column.feed server.address events)
 
@@ -151,7 +151,7 @@ pub record ServesLink (service : Service) (link link_now : LinkState) (work : Li
   pub first_phase : ServesPhase service.during link between work.first first
   pub second_phase : HasSecond service.after between link_now work second
   pub gate_now : Gate
-  pub lawful : AreTurns service.keys service.gate (first ++ second) gate_now
+  pub valid : AreTurns service.keys service.gate (first ++ second) gate_now
   pub pages : All (IsReadOf service.settings service.journal) (flat_map readings_of (first ++ second))
   pub last : ℕ
   pub rising : Rises 0 (flat_map readings_of (first ++ second)) last
@@ -164,7 +164,7 @@ pub record RadiosServed {L : Type 0} (logs_of : Sight L SourceState) (radios : L
   pub openings : map logs_of.opening logs_now ≡ map logs_of.opening logs
   pub count : length works ≡ length logs
   pub at : (i : ℕ) (radio : RadioFields) (a b : L) (work : LogWork) → i < length logs →
-      HearsRadio (slice_index_or radios i radio) (column_after first i) (logs_of.state (slice_index_or logs i a)) (logs_of.state (slice_index_or logs_now i b)) (slice_index_or works i work)
+      ReadsRadio (slice_index_or radios i radio) (column_after first i) (logs_of.state (slice_index_or logs i a)) (logs_of.state (slice_index_or logs_now i b)) (slice_index_or works i work)
 
 -- the servers are the feeds after them
 pub record ServersServed {T : Type 0} (links_of : Sight T LinkState) (servers : List ServerFields) (first : Column) (links links_now : List T) (works : List PollWork) : Type 0 where

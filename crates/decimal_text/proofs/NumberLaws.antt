@@ -36,12 +36,12 @@ not_empty text value small e =
     let same = ap length e in
     omega arith
 
-not_behind : (ds : List ℕ) (value : ℕ) → value < 2 ^ 60 → get_or ds 0 0 ≡ 48 → 1 < length ds → ds ≡ decimal value → ⊥
-not_behind ds zero small nought more e =
+not_later : (ds : List ℕ) (value : ℕ) → value < 2 ^ 60 → get_or ds 0 0 ≡ 48 → 1 < length ds → ds ≡ decimal value → ⊥
+not_later ds zero small nought more e =
     let one : ds ≡ 48 ∷ [] = e ∙ decimal_digit 0 (omega arith) in
     let same = ap length one in
     omega arith
-not_behind ds (suc m) small nought more e =
+not_later ds (suc m) small nought more e =
     let first = first_decimal (suc m) (omega arith) (omega arith) in
     let same = ap (λ (t : List ℕ). get_or t 0 0) e in
     omega arith
@@ -50,7 +50,7 @@ pub not_padded : (text : List ℕ) (count value : ℕ) → count ≤ length text
 not_padded text count value within small more nought e =
     let len = length-take-le count text within in
     let first = get_or-take count text 0 0 (omega arith) in
-    not_behind (take count text) value small (first ∙ nought) (omega arith) e
+    not_later (take count text) value small (first ∙ nought) (omega arith) e
 
 digits_push : (ds : List ℕ) (c : ℕ) → AllDigits 10 ds → digit_value c < 10 → AllDigits 10 (ds ++ c ∷ [])
 digits_push [] c all digit = (digit, tt)

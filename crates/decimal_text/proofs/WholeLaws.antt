@@ -23,9 +23,9 @@ first_digit first len e nought = elim (or_cases (not (eqb first 48)) (eqb len 1)
 -- a text of decimal digits is that of its number
 text_is : (text : List ℕ) → digits_value 10 text < 2 ^ 64 → is_number text ≡ true → text ≡ decimal (digits_value 10 text)
 text_is text small number =
-    let front = and_parts (all_ascii_digits text && ltb 0 (length text)) _ number in
-    let digits = and_parts (all_ascii_digits text) (ltb 0 (length text)) front.0 in
-    sym (decimal-digits_value own text digits.0 (ltb-true 0 (length text) digits.1) (first_digit (get_or text 0 0) (length text) front.1) small)
+    let prefix = and_parts (all_ascii_digits text && ltb 0 (length text)) _ number in
+    let digits = and_parts (all_ascii_digits text) (ltb 0 (length text)) prefix.0 in
+    sym (decimal-digits_value own text digits.0 (ltb-true 0 (length text) digits.1) (first_digit (get_or text 0 0) (length text) prefix.1) small)
 
 first_fits : (n : ℕ) → n < 2 ^ 64 → (not (eqb (get_or (decimal n) 0 0) 48) || eqb (length (decimal n)) 1) ≡ true
 first_fits zero small = let text : decimal 0 ≡ 48 ∷ [] = decimal_digit 0 (omega arith) in rw text refl

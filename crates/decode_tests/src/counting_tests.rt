@@ -1,7 +1,7 @@
 //! Tests of a receiver around a receiver: it answers as the inner one does, and counts the reductions that it receives.
 ghost use Rattle.std.specs.Prelude.{◌≡◌, ◌≤◌};
 
-use crate::shared::{dcf_minute, hears, lone, msf_minute, same, wwvb_minute};
+use crate::shared::{dcf_minute, lone, msf_minute, receives, same, wwvb_minute};
 use radio_receiver::{
     BoxedReceiver, CountingReceiver, DcfReceiver, MsfReceiver, Receiver, WwvbReceiver,
 };
@@ -11,7 +11,7 @@ use tick_units::{Heard, Plan, Reduction};
 
 // Takes reductions that start at this moment or later, as far as their starts rise. Returns the last answer, and the least start
 // that may come next.
-fn hear_all<T: Receiver>(
+fn receive_all<T: Receiver>(
     receiver: &mut T,
     least: u64,
     reductions: &[Reduction],
@@ -50,7 +50,7 @@ fn counts<T: Receiver>(inner: Box<T>, delay_us: u32, list: &[Reduction]) -> Coun
     let blank = counting.count();
     counting.fit(delay_us);
     let fitted = counting.count();
-    let (heard, _) = hear_all(&mut counting, 0, list);
+    let (heard, _) = receive_all(&mut counting, 0, list);
     (plan, [blank, fitted, counting.count()], heard)
 }
 
@@ -63,11 +63,11 @@ fn goes_on<T: Receiver>(inner: Box<T>, list: &[Reduction]) -> Counted
     let plan = inner.plan();
     let (first, rest) = list.split_at(list.len().min(40));
     let mut outer = CountingReceiver::new(CountingReceiver::new(inner));
-    let (_, least) = hear_all(&mut outer, 0, first);
+    let (_, least) = receive_all(&mut outer, 0, first);
     let both = outer.count();
     let mut inner = outer.into_inner();
     let one = inner.count();
-    let (heard, _) = hear_all(&mut inner, least, rest);
+    let (heard, _) = receive_all(&mut inner, least, rest);
     (plan, [both, one, inner.count()], heard)
 }
 
@@ -80,15 +80,15 @@ fn it_answers_what_its_inner_receiver_answers(rt: HostRuntime) -> Result<(), Fai
     let counting = CountingReceiver::new(DcfReceiver::new());
     let counting: BoxedReceiver = Box::new(rt.alloc(), counting)?;
     let want = lone(62_000_000, 3_976_257_600);
-    hears(&rt, counting, Plan::Dcf, 0, &dcf_minute(), want);
+    receives(&rt, counting, Plan::Dcf, 0, &dcf_minute(), want);
     let counting = CountingReceiver::new(MsfReceiver::new());
     let counting: BoxedReceiver = Box::new(rt.alloc(), counting)?;
     let want = lone(61_998_500, 3_976_257_600);
-    hears(&rt, counting, Plan::Msf, 1_500, &msf_minute(), want);
+    receives(&rt, counting, Plan::Msf, 1_500, &msf_minute(), want);
     let counting = CountingReceiver::new(WwvbReceiver::new());
     let counting: BoxedReceiver = Box::new(rt.alloc(), counting)?;
     let want = lone(61_900_000, 3_944_592_060);
-    hears(&rt, counting, Plan::Wwvb, 100_000, &wwvb_minute(), want);
+    receives(&rt, counting, Plan::Wwvb, 100_000, &wwvb_minute(), want);
     Ok(())
 }
 

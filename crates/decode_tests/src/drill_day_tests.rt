@@ -1,8 +1,8 @@
 //! Made days, against another program.
 use crate::shared::{SUM_OF_NONE, same, sum_on};
 use drill_day::make_logs;
-use feed_link::Source;
 use memory_links::SureSource;
+use outside_traits::Source;
 use std::process::Abort;
 use std::test::Fail;
 

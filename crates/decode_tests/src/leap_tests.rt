@@ -58,7 +58,7 @@ fn symbol_at(plan: Plan, minute: &Minute<'_>, place: usize) -> Symbol {
 }
 
 // What the marks of a minute come to that begins at this second; DCF77 leaves out the last of 60.
-fn hear_minute(
+fn receive_minute(
     pairing: &mut Pairing,
     plan: Plan,
     minute: &Minute<'_>,
@@ -80,10 +80,10 @@ fn hear_minute(
 // The answer to the second of two minutes, which a third begins to close.
 fn after_two(plan: Plan, first: &Minute<'_>, second: &Minute<'_>) -> Option<Kind> {
     let mut pairing = Pairing::new(plan);
-    let _ = hear_minute(&mut pairing, plan, first, 0);
-    let _ = hear_minute(&mut pairing, plan, first, 60);
-    let _ = hear_minute(&mut pairing, plan, second, 120);
-    match hear_minute(&mut pairing, plan, second, 180) {
+    let _ = receive_minute(&mut pairing, plan, first, 0);
+    let _ = receive_minute(&mut pairing, plan, first, 60);
+    let _ = receive_minute(&mut pairing, plan, second, 120);
+    match receive_minute(&mut pairing, plan, second, 180) {
         Some(heard) => Some(heard.kind),
         None => None,
     }

@@ -33,8 +33,8 @@ fn take_lines(
         let (count, said) = match reader.take_whole_line(rest) {
             Some(line) => (line.count, Some(line.found)),
             None => {
-                let front = reader.take_by_bytes(rest);
-                (front.count, front.found.ok().flatten())
+                let prefix = reader.take_by_bytes(rest);
+                (prefix.count, prefix.found.ok().flatten())
             }
         };
         rest = rest.split_at(count).1;
@@ -157,7 +157,7 @@ fn is_read_both_ways(rt: &impl Abort, alloc: Global, row: &Read) -> Result<(), A
 }
 
 #[test]
-fn lawful_lines_are_read(rt: HostRuntime) -> Result<(), Fail> {
+fn valid_lines_are_read(rt: HostRuntime) -> Result<(), Fail> {
     for row in &VALID {
         is_read_both_ways(&rt, rt.alloc(), row)?;
     }
@@ -207,7 +207,7 @@ fn ends_at(
 }
 
 #[test]
-fn the_first_line_that_is_not_lawful_is_told(rt: HostRuntime) -> Result<(), Fail> {
+fn the_first_line_that_is_not_valid_is_reported(rt: HostRuntime) -> Result<(), Fail> {
     for (log, valid, line) in INVALID {
         ends_at(&rt, rt.alloc(), log, valid, line)?;
     }
@@ -225,7 +225,7 @@ fn a_line_is_bad_at_its_32nd_byte(rt: HostRuntime) -> Result<(), Fail> {
 }
 
 #[test]
-fn a_bad_line_is_told_on(rt: HostRuntime) -> Result<(), Fail> {
+fn a_bad_line_is_reported_on(rt: HostRuntime) -> Result<(), Fail> {
     let mut reader = LineReader::new();
     for byte in b"7 1\n8 x" {
         let _ = reader.take(*byte);

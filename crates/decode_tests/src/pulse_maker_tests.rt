@@ -2,8 +2,8 @@
 ghost use Rattle.std.specs.Prelude.{◌≤◌};
 
 use crate::shared::{SUM_OF_NONE, same, sum_on};
-use feed_link::Failed;
 use memory_links::MemorySink;
+use outside_traits::Failed;
 use pulse_maker::make;
 use std::alloc::Global;
 use std::process::Abort;

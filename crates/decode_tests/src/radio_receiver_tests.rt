@@ -1,6 +1,6 @@
 //! Tests of receivers: each plan, its path delay, its boundaries, and leap seconds.
 use crate::shared::{
-    dcf_minute, hears, last_answer, lone, moment, msf_minute, reduction, same, wwvb_minute,
+    dcf_minute, last_answer, lone, moment, msf_minute, receives, reduction, same, wwvb_minute,
 };
 use memory_outside::{NOON_0, NOON_1};
 use radio_receiver::{BoxedReceiver, DcfReceiver, MsfReceiver, Receiver, WwvbReceiver};
@@ -10,26 +10,26 @@ use std::test::Fail;
 use tick_units::{Heard, Kind, Plan, Reduction};
 
 #[test]
-fn a_boxed_receiver_of_dcf77_hears_a_minute(rt: HostRuntime) -> Result<(), Fail> {
+fn a_boxed_receiver_of_dcf77_receives_a_minute(rt: HostRuntime) -> Result<(), Fail> {
     let receiver: BoxedReceiver = Box::new(rt.alloc(), DcfReceiver::new())?;
     let want = lone(62_000_000, 3_976_257_600);
-    hears(&rt, receiver, Plan::Dcf, 0, &dcf_minute(), want);
+    receives(&rt, receiver, Plan::Dcf, 0, &dcf_minute(), want);
     Ok(())
 }
 
 #[test]
-fn a_boxed_receiver_of_msf_hears_a_minute(rt: HostRuntime) -> Result<(), Fail> {
+fn a_boxed_receiver_of_msf_receives_a_minute(rt: HostRuntime) -> Result<(), Fail> {
     let receiver: BoxedReceiver = Box::new(rt.alloc(), MsfReceiver::new())?;
     let want = lone(61_998_500, 3_976_257_600);
-    hears(&rt, receiver, Plan::Msf, 1_500, &msf_minute(), want);
+    receives(&rt, receiver, Plan::Msf, 1_500, &msf_minute(), want);
     Ok(())
 }
 
 #[test]
-fn a_boxed_receiver_of_wwvb_hears_a_minute(rt: HostRuntime) -> Result<(), Fail> {
+fn a_boxed_receiver_of_wwvb_receives_a_minute(rt: HostRuntime) -> Result<(), Fail> {
     let receiver: BoxedReceiver = Box::new(rt.alloc(), WwvbReceiver::new())?;
     let want = lone(61_900_000, 3_944_592_060);
-    hears(&rt, receiver, Plan::Wwvb, 100_000, &wwvb_minute(), want);
+    receives(&rt, receiver, Plan::Wwvb, 100_000, &wwvb_minute(), want);
     Ok(())
 }
 
@@ -43,12 +43,12 @@ fn no_moment_is_below_0(rt: HostRuntime) -> Result<(), Fail> {
         reduction(1_050_000, 100_000),
     ];
     let want = answer(0, Kind::Refused { rule: 1 });
-    hears(&rt, receiver, Plan::Msf, 100_000, &list, want);
+    receives(&rt, receiver, Plan::Msf, 100_000, &list, want);
     Ok(())
 }
 
 #[test]
-fn a_receiver_is_blank_until_it_hears(rt: HostRuntime) {
+fn a_receiver_is_blank_until_it_receives(rt: HostRuntime) {
     let mut receiver = DcfReceiver::new();
     assert!(rt; receiver.blank());
     receiver.fit(20_000);
@@ -100,7 +100,7 @@ fn holds_minute(rt: &impl Abort, alloc: Global, width: u32, is_minute: bool) -> 
 
 // A minute of WWVB begins with the second of two markers; so three markers hold one, of one mark.
 #[test]
-fn a_minute_of_wwvb_begins_behind_a_marker(rt: HostRuntime) -> Result<(), Fail> {
+fn a_minute_of_wwvb_begins_after_a_marker(rt: HostRuntime) -> Result<(), Fail> {
     holds_minute(&rt, rt.alloc(), 800_000, true)?;
     holds_minute(&rt, rt.alloc(), 500_000, false)
 }

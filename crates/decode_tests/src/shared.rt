@@ -146,7 +146,7 @@ pub fn last_answer(
 }
 
 // A receiver of this plan, with a path delay, answers so at last.
-pub fn hears(
+pub fn receives(
     rt: &impl Abort,
     receiver: BoxedReceiver,
     plan: Plan,

@@ -22,9 +22,9 @@ abbrev pub shape_of : Plan → Shape
 shape_of plan = (reads plan).shape
 
 -- lists put before the first of others
-abbrev pub onto_front : {X : Type 0} → List X → List (List X) → List (List X)
-onto_front [] parts = parts
-onto_front (x ∷ xs) parts = onto_first x (onto_front xs parts)
+abbrev pub onto_prefix : {X : Type 0} → List X → List (List X) → List (List X)
+onto_prefix [] parts = parts
+onto_prefix (x ∷ xs) parts = onto_first x (onto_prefix xs parts)
 
 step_is : (plan : Plan) (start j index : ℕ) (a b : Symbol) → begins_after plan (mark_at plan start j index a) (mark_at plan start (suc j) (index + 1) b) ≡ (shape_of plan).steps a b
 step_is plan start j index a b = (reads plan).steps (start_of index (number_from start j)) (start_of (index + 1) (number_from start (suc j))) a b (omega arith)
@@ -36,7 +36,7 @@ not_true false e = refl
 -- calm seconds stay in the piece of the mark before them
 pub quiet : (plan : Plan) (start j index : ℕ) (a : Symbol) (more : List Symbol) (rest : List Mark) → is_calm (shape_of plan) a more ≡ true →
     cut (code_of plan) (Some (mark_at plan start j index a)) (marks_from plan start (suc j) (seconds_from (index + 1) more) ++ rest)
-    ≡ onto_front (marks_from plan start (suc j) (seconds_from (index + 1) more)) (cut (code_of plan) (Some (mark_at plan start (j + length more) (index + length more) (last_symbol a more))) rest)
+    ≡ onto_prefix (marks_from plan start (suc j) (seconds_from (index + 1) more)) (cut (code_of plan) (Some (mark_at plan start (j + length more) (index + length more) (last_symbol a more))) rest)
 quiet plan start j index a [] rest calm =
     let j_same : j + 0 ≡ j = omega arith in
     let i_same : index + 0 ≡ index = omega arith in
@@ -48,10 +48,10 @@ quiet plan start j index a (b ∷ more) rest calm =
     let i_next : index + 1 + length more ≡ index + suc (length more) = omega arith in
     rw off (ap (onto_first (mark_at plan start (suc j) (index + 1) b)) (
     quiet plan start (suc j) (index + 1) b more rest parts.1
-    ∙ ap (λ n. onto_front (marks_from plan start (suc (suc j)) (seconds_from (index + 1 + 1) more)) (cut (code_of plan) (Some (mark_at plan start n (index + 1 + length more) (last_symbol b more))) rest)) j_next
-    ∙ ap (λ n. onto_front (marks_from plan start (suc (suc j)) (seconds_from (index + 1 + 1) more)) (cut (code_of plan) (Some (mark_at plan start (j + suc (length more)) n (last_symbol b more))) rest)) i_next
+    ∙ ap (λ n. onto_prefix (marks_from plan start (suc (suc j)) (seconds_from (index + 1 + 1) more)) (cut (code_of plan) (Some (mark_at plan start n (index + 1 + length more) (last_symbol b more))) rest)) j_next
+    ∙ ap (λ n. onto_prefix (marks_from plan start (suc (suc j)) (seconds_from (index + 1 + 1) more)) (cut (code_of plan) (Some (mark_at plan start (j + suc (length more)) n (last_symbol b more))) rest)) i_next
     ))
 
-pub onto_none : {X : Type 0} (xs : List X) (parts : List (List X)) → onto_front xs ([] ∷ parts) ≡ xs ∷ parts
+pub onto_none : {X : Type 0} (xs : List X) (parts : List (List X)) → onto_prefix xs ([] ∷ parts) ≡ xs ∷ parts
 onto_none [] parts = refl
 onto_none (x ∷ xs) parts = ap (onto_first x) (onto_none xs parts)

@@ -10,7 +10,7 @@ use Rattle.frame_rules.specs.Codes.{Code}
 use Rattle.frame_rules.specs.Fields.{symbols_of as symbols_in}
 use Rattle.frame_rules.proofs.SentLaws.{OpensAfter, OpensAlone, is_alone}
 use Rattle.log_decoder.specs.Due.{entry_of}
-use Rattle.minute_pair.specs.Answers.{agreed_leap, answers, answers_after, are_timely, judged, judged_by, kind_after, kind_alone, kind_behind, kind_of_both, kind_of_valid}
+use Rattle.minute_pair.specs.Answers.{agreed_leap, answers, answers_after, are_timely, judged, judged_by, kind_after, kind_alone, kind_following, kind_of_both, kind_of_valid}
 use Rattle.code_plans.specs.Codes.{code_of, sending_of}
 use Rattle.code_plans.proofs.Sent.{fits, reads}
 use Rattle.minute_pair.specs.Segments.{Segment, closed, cut, segments_of}
@@ -26,7 +26,7 @@ use Rattle.tick_units.specs.declared.verdicts.Coded.{Coded}
 use Rattle.tick_units.specs.declared.verdicts.Heard.{Heard}
 use Rattle.tick_units.specs.declared.verdicts.Kind.TheVariants.{Verdict, Differs}
 use Rattle.pulse_maker.specs.Made.{made, number_from, reductions_from, seeded, start_of, text_of}
-use Rattle.pulse_maker.specs.Minutes.{closing_symbols, coded_of, is_spoilt, index_of, opening_index, opening_symbols, seconds_from, seconds_of, symbols_of}
+use Rattle.pulse_maker.specs.Minutes.{closing_symbols, coded_of, is_damaged, index_of, opening_index, opening_symbols, seconds_from, seconds_of, symbols_of}
 use Rattle.pulse_maker.specs.declared.seconds.Second.{Second}
 use Rattle.pulse_maker.proofs.MakingLaws.{minute_seconds}
 use Rattle.journal_orders.specs.Orders.{NamesNoLeap, leap_in, leap_named}
@@ -86,11 +86,11 @@ log_alone plan first minutes seed =
 
 -- whatever stands before the first minute, the minutes are cut out after it
 record HasMinutes (plan : Plan) (first minutes seed : ℕ) (marks : List Mark) : Type 0 where
-  front : List Mark
+  prefix : List Mark
   closing : List Mark
   start : ℕ
   from : ℕ
-  is : cut (code_of plan) None marks ≡ front ∷ (minutes_marks plan first seed start from 0 minutes ++ closing ∷ [])
+  is : cut (code_of plan) None marks ≡ prefix ∷ (minutes_marks plan first seed start from 0 minutes ++ closing ∷ [])
 
 -- the seconds before the first minute, those of the minutes, and the first after them, which closes them
 abbrev opened : Plan → List Second
@@ -151,7 +151,7 @@ minutes_by plan first minutes seed few (inl o) =
     let seconds : shown plan first minutes seed ≡ rest = ap (λ l. (seconds_from (opening_index plan) l ++ between plan first seed minutes) ++ closer plan minutes ∷ []) o.none in
     let pieces = pieces_are plan first seed start 1 minutes None (λ late head e. o.begins (start_of (index_of 0) late) head e) in
     record {
-      front = [];
+      prefix = [];
       closing = pieces.0;
       start = start;
       from = 1;
@@ -165,7 +165,7 @@ minutes_by plan first minutes seed few (inr o) =
     let seconds : shown plan first minutes seed ≡ one ∷ rest = ap (λ l. (seconds_from (opening_index plan) l ++ between plan first seed minutes) ++ closer plan minutes ∷ []) o.one in
     let pieces = pieces_are plan first seed start 2 minutes (Some opening) (leads_on plan start 1 (opening_index plan) (index_of 0) o.last (omega (arith, o.far)) o.ends_it) in
     record {
-      front = opening ∷ [];
+      prefix = opening ∷ [];
       closing = pieces.0;
       start = start;
       from = 2;
@@ -226,9 +226,9 @@ valid_none : (plan : Plan) (before : Segment) (r : Result Coded Broken) (now : S
 valid_none plan before (Ok was) now is e = both_none plan before now was is e
 valid_none plan before (Err broken) now is e = refl
 
-behind_none : (plan : Plan) (before now : Segment) (r : Result Coded Broken) → leap_of r ≡ 0 → leap_in (kind_behind (code_of plan) before now r) ≡ 0
-behind_none plan before now (Ok is) e = valid_none plan before (judged (code_of plan) before) now is e
-behind_none plan before now (Err broken) e = refl
+after_none : (plan : Plan) (before now : Segment) (r : Result Coded Broken) → leap_of r ≡ 0 → leap_in (kind_following (code_of plan) before now r) ≡ 0
+after_none plan before now (Ok is) e = valid_none plan before (judged (code_of plan) before) now is e
+after_none plan before now (Err broken) e = refl
 
 alone_none : (r : Result Coded Broken) → leap_in (kind_alone r) ≡ 0
 alone_none (Ok is) = refl
@@ -236,7 +236,7 @@ alone_none (Err broken) = refl
 
 kind_none : (plan : Plan) (before : Option Segment) (now : Segment) → says_none plan now.marks → leap_in (kind_after (code_of plan) before now) ≡ 0
 kind_none plan None now h = alone_none (judged (code_of plan) now)
-kind_none plan (Some before) now h = behind_none plan before now (judged (code_of plan) now) (judged_none plan now h)
+kind_none plan (Some before) now h = after_none plan before now (judged (code_of plan) now) (judged_none plan now h)
 
 -- ---- of all minutes
 
@@ -246,7 +246,7 @@ read_symbols plan start j index (symbol ∷ more) = ap (λ l. read_as plan symbo
 
 minute_none : (plan : Plan) (first seed start j m : ℕ) → says_none plan (minute_marks plan first seed start j m)
 minute_none plan first seed start j m =
-    (reads plan).no_leap (is_spoilt seed m) (coded_of first m) (minute_marks plan first seed start j m) refl (read_symbols plan start j (index_of m) (symbols_of plan first seed m))
+    (reads plan).no_leap (is_damaged seed m) (coded_of first m) (minute_marks plan first seed start j m) refl (read_symbols plan start j (index_of m) (symbols_of plan first seed m))
 
 minutes_none : (plan : Plan) (first seed start j m count : ℕ) → AllByRecursion (says_none plan) (minutes_marks plan first seed start j m count)
 minutes_none plan first seed start j m zero = tt

@@ -10,10 +10,10 @@ use Rattle.tick_units.specs.declared.marks.Mark.{Mark}
 use Rattle.tick_units.specs.declared.marks.Plan.{Plan}
 use Rattle.tick_units.specs.declared.marks.Symbol.{Symbol}
 use Rattle.pulse_maker.specs.Made.{number_from, start_of}
-use Rattle.pulse_maker.specs.Minutes.{coded_of, index_of, is_spoilt, seconds_from, symbols_of}
+use Rattle.pulse_maker.specs.Minutes.{coded_of, index_of, is_damaged, seconds_from, symbols_of}
 use Rattle.pulse_maker.specs.declared.seconds.Second.{Second}
 use Rattle.pulse_maker.proofs.MakingLaws.{minute_seconds}
-use Rattle.drill_day.proofs.CutLaws.{onto_front, onto_none, quiet, shape_of}
+use Rattle.drill_day.proofs.CutLaws.{onto_prefix, onto_none, quiet, shape_of}
 use Rattle.drill_day.proofs.MarkLaws.{mark_at, marks_append, marks_from}
 
 -- how many seconds of a minute have a mark
@@ -25,7 +25,7 @@ no_last : (first minute : ℕ) → ((coded_of first minute).leap_at == (coded_of
 no_last first minute = grind (arith, nat_tests)
 
 pub minute_is : (plan : Plan) (first seed minute : ℕ) → IsMinute (shape_of plan) (symbols_of plan first seed minute)
-minute_is plan first seed minute = (reads plan).minute (is_spoilt seed minute) (coded_of first minute) refl (no_last first minute)
+minute_is plan first seed minute = (reads plan).minute (is_damaged seed minute) (coded_of first minute) refl (no_last first minute)
 
 -- at this index a minute begins, after such a mark
 abbrev pub Leads : Plan → ℕ → Option Mark → Type 0
@@ -53,7 +53,7 @@ seconds_count index (symbol ∷ more) = ap suc (seconds_count (index + 1) more)
 pub one_minute : (plan : Plan) (start j m : ℕ) (symbols : List Symbol) (before : Option Mark) (rest : List Mark) (pieces : List (List Mark)) → IsMinute (shape_of plan) symbols → Leads plan (index_of m) before →
     ((last : Mark) → Leads plan (index_of (m + 1)) (Some last) → cut (code_of plan) (Some last) rest ≡ [] ∷ pieces) →
     cut (code_of plan) before (marks_from plan start j (seconds_from (index_of m) symbols) ++ rest) ≡ [] ∷ marks_from plan start j (seconds_from (index_of m) symbols) ∷ pieces
-one_minute plan start j m symbols before rest pieces is leads behind =
+one_minute plan start j m symbols before rest pieces is leads later =
     let index = index_of m in
     let head = mark_at plan start j index is.head in
     let tail = marks_from plan start (suc j) (seconds_from (index + 1) is.tail) in
@@ -61,8 +61,8 @@ one_minute plan start j m symbols before rest pieces is leads behind =
     let size : suc (length is.tail) ≡ marked plan = ap (λ (l : List Symbol). length l) (sym is.is) ∙ is.count in
     let last = mark_at plan start (j + length is.tail) (index + length is.tail) (last_symbol is.head is.tail) in
     let far : index + length is.tail + (shape_of plan).gap ≡ index_of (m + 1) = omega (arith, size, (reads plan).whole) in
-    let next : cut (code_of plan) (Some last) rest ≡ [] ∷ pieces = behind last (leads_on plan start (j + length is.tail) (index + length is.tail) (index_of (m + 1)) (last_symbol is.head is.tail) far is.ends_it) in
-    let inner : cut (code_of plan) (Some head) (tail ++ rest) ≡ tail ∷ pieces = quiet plan start j index is.head is.tail rest is.calm ∙ ap (onto_front tail) next ∙ onto_none tail pieces in
+    let next : cut (code_of plan) (Some last) rest ≡ [] ∷ pieces = later last (leads_on plan start (j + length is.tail) (index + length is.tail) (index_of (m + 1)) (last_symbol is.head is.tail) far is.ends_it) in
+    let inner : cut (code_of plan) (Some head) (tail ++ rest) ≡ tail ∷ pieces = quiet plan start j index is.head is.tail rest is.calm ∙ ap (onto_prefix tail) next ∙ onto_none tail pieces in
     let whole : cut (code_of plan) before ((head ∷ tail) ++ rest) ≡ [] ∷ (head ∷ tail) ∷ pieces = rw on (ap (λ l. [] ∷ onto_first head l) inner) in
     subst (λ s. cut (code_of plan) before (marks_from plan start j (seconds_from index s) ++ rest) ≡ [] ∷ marks_from plan start j (seconds_from index s) ∷ pieces) (sym is.is) whole
 

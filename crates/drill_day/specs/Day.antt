@@ -1,7 +1,7 @@
 -- The day of a drill: a log for each code plan, made up from a seed, and the entries that are due for it. The choice of the day
 -- is this project's own.
 use Rattle.std.specs.Prelude.{◌≡◌, ◌≤◌, ℕ, None, Some, List, [], ◌∷◌, length}
-use Rattle.feed_link.specs.Told.{SourceState}
+use Rattle.outside_traits.specs.States.{SourceState}
 use Rattle.tick_units.specs.Log.{bad_at_end}
 use Rattle.tick_units.specs.declared.marks.Plan.{Plan}
 use Rattle.tick_units.specs.declared.marks.Plan.TheVariants.{Dcf, Msf, Wwvb}

@@ -34,7 +34,7 @@ fn a_carriage_return_before_the_line_feed_is_bad(rt: HostRuntime) {
 }
 
 #[test]
-fn each_unlawful_line_alone_is_bad(rt: HostRuntime) {
+fn each_invalid_line_alone_is_bad(rt: HostRuntime) {
     for line in ["| 01 100000", "| 1 0", "| 1 2000001", "|"] {
         plays(&rt, rt.alloc(), &[RADIO, line, FIRST_IS_BAD]);
     }
@@ -53,7 +53,7 @@ fn the_greatest_start_is_taken(rt: HostRuntime) {
 }
 
 #[test]
-fn a_start_behind_the_greatest_is_bad(rt: HostRuntime) {
+fn a_start_after_the_greatest_is_bad(rt: HostRuntime) {
     plays(
         &rt,
         rt.alloc(),
@@ -272,7 +272,7 @@ const KEPT: [&[u8]; 3] = [
 ];
 
 // How many lines are entries of a feed, or None where these aren't the first ones that are due for its minutes.
-fn front_of(written: &[u8], feed: u8) -> Option<usize> {
+fn prefix_of(written: &[u8], feed: u8) -> Option<usize> {
     let mut count = 0usize;
     for line in written.split(|byte| *byte == b'\n') {
         if line.starts_with(b"j2 ") {
@@ -290,7 +290,7 @@ fn front_of(written: &[u8], feed: u8) -> Option<usize> {
 
 // Sixteen hearings come beside the feeds. Three entries are too few for a page that couldn't be read.
 #[test]
-fn of_each_feed_a_full_journal_has_a_front(rt: HostRuntime) {
+fn of_each_feed_a_full_journal_has_a_prefix(rt: HostRuntime) {
     let scene = r#"
         run serve --station s --limit 3 --after 1
         file s
@@ -318,8 +318,8 @@ fn of_each_feed_a_full_journal_has_a_front(rt: HostRuntime) {
         sent 0 client 17 e40006ec ..
     "#;
     let written = written_of(&rt, rt.alloc(), &[scene]);
-    let first = front_of(written.as_slice(), b'0');
-    let second = front_of(written.as_slice(), b'1');
+    let first = prefix_of(written.as_slice(), b'0');
+    let second = prefix_of(written.as_slice(), b'1');
     same(
         &rt,
         first.and_then(|first| second.map(|second| first.saturating_add(second))),

@@ -4,9 +4,9 @@ ghost use Rattle.memory_outside.specs.MemoryOutside.{is_gate_out};
 
 use crate::runs::{OF_A_PLAN, run_over, run_with, same};
 use crate::scene::outside_of;
-use feed_link::Gate;
 use memory_links::MemorySink;
 use memory_outside::MemoryOutside;
+use outside_traits::Gate;
 use radio_engine::Status;
 use radio_receiver::{CountingReceiver, DcfReceiver, MsfReceiver, WwvbReceiver};
 use receiver_rack::put_in_rack;

@@ -279,7 +279,7 @@ fn a_log_ends_at_its_first_bad_line(rt: HostRuntime) {
 }
 
 #[test]
-fn what_is_lawful_is_taken(rt: HostRuntime) {
+fn what_is_valid_is_taken(rt: HostRuntime) {
     for text in ["", "| 0 1", "| 1125899906842623 2000000"] {
         plays(&rt, rt.alloc(), &[DCF, text, "writes", DONE]);
     }

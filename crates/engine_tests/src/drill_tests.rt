@@ -21,7 +21,7 @@ const SEED_7: &str = r#"
 "#;
 
 #[test]
-fn a_day_is_told_as_it_was_spelt(rt: HostRuntime) {
+fn a_day_is_reported_as_it_was_spelt(rt: HostRuntime) {
     plays(&rt, rt.alloc(), &["run drill --seed 7", SEED_7]);
 }
 
@@ -113,7 +113,7 @@ fn sum_of_feeds(written: &[u8]) -> u64 {
 }
 
 #[test]
-fn a_journal_of_three_entries_is_told(rt: HostRuntime) {
+fn a_journal_of_three_entries_is_reported(rt: HostRuntime) {
     let scene = r#"
         run drill --seed 7 --limit 3
         ends

@@ -200,7 +200,7 @@ fn two_links_judge_over_both_phases(rt: HostRuntime) {
 
 // In the second phase alone: the first reply has the time of the page, and the next is the kiss code at the same moments.
 #[test]
-fn a_link_tells_the_time_once_a_gap(rt: HostRuntime) {
+fn a_link_reports_the_time_once_a_gap(rt: HostRuntime) {
     let scene = r#"
         run serve --station s --during 0 --after 4
         file s

@@ -39,7 +39,7 @@ const DONE: &str = "
 ";
 
 #[test]
-fn each_row_but_the_first_is_told(rt: HostRuntime) {
+fn each_row_but_the_first_is_reported(rt: HostRuntime) {
     plays(&rt, rt.alloc(), &[LISTED, LIST, NOTICE, DONE]);
 }
 
@@ -58,7 +58,7 @@ fn a_row_that_skips_a_second_is_a_bad_line(rt: HostRuntime) {
 }
 
 #[test]
-fn an_empty_list_tells_nothing(rt: HostRuntime) {
+fn an_empty_list_reports_nothing(rt: HostRuntime) {
     plays(&rt, rt.alloc(), &[LISTED, NOTHING, DONE]);
 }
 
@@ -73,7 +73,7 @@ fn a_last_row_without_its_line_feed_counts(rt: HostRuntime) {
 }
 
 #[test]
-fn a_last_line_that_is_bad_is_told(rt: HostRuntime) {
+fn a_last_line_that_is_bad_is_reported(rt: HostRuntime) {
     let list = r#"
         | 3644697600 36
         | 3692217600 37
@@ -99,7 +99,7 @@ fn a_read_fails(rt: HostRuntime) {
 
 // A file that is read in one piece, whose second reading fails: the row that its line feed ends counts, the unfinished one doesn't.
 #[test]
-fn a_read_fails_behind_an_unfinished_row(rt: HostRuntime) {
+fn a_read_fails_after_an_unfinished_row(rt: HostRuntime) {
     let list = r#"
         | 3644697600 36
         | 3692217600 37
@@ -164,7 +164,7 @@ fn a_full_journal_loses_a_notice(rt: HostRuntime) {
 }
 
 #[test]
-fn one_that_is_not_there_is_told_by_its_feed(rt: HostRuntime) {
+fn one_that_is_not_there_is_reported_by_its_feed(rt: HostRuntime) {
     let scene = r#"
         run serve --station s
         file s
@@ -206,7 +206,7 @@ const WITH_SERVER: &str = "
 
 // The station is opened first, then the log of feed 0, then the file of feed 2, then the link of feed 1.
 #[test]
-fn it_is_opened_behind_the_logs(rt: HostRuntime) {
+fn it_is_opened_after_the_logs(rt: HostRuntime) {
     let (first, second, third) = (
         "| status 2 open feed 0\nstatus 2\nfails opening 2",
         "| status 2 open feed 2\nstatus 2\nfails opening 3",
@@ -219,7 +219,7 @@ fn it_is_opened_behind_the_logs(rt: HostRuntime) {
 
 // Its worker waits until the server's has kept its sample: its feed is the last one, after the server's.
 #[test]
-fn its_feed_stands_behind_the_servers(rt: HostRuntime) {
+fn its_feed_stands_after_the_servers(rt: HostRuntime) {
     let scene = r#"
         | j2 1 0 1 1010000 sample 17077897383243199545 40802189 8837 2 7f000001 256 512
         | j2 2 0 2 0 notice 3692217600

@@ -73,7 +73,7 @@ const LATE_PAGE: &str =
     "| page 6 1 1 44434600 17077896086170592347 362003000 37547671946 0 28981 ed00e16c00000000 0 -53687";
 
 #[test]
-fn a_line_tells_the_rate_after_it(rt: HostRuntime) {
+fn a_line_reports_the_rate_after_it(rt: HostRuntime) {
     plays(
         &rt,
         rt.alloc(),
@@ -179,7 +179,7 @@ fn lines_before_a_bad_one_stand(rt: HostRuntime) {
 
 // Each at a bound, and moments that fall.
 #[test]
-fn what_is_lawful_is_moved(rt: HostRuntime) {
+fn what_is_valid_is_moved(rt: HostRuntime) {
     let scene = r#"
         | 0 122000000 lone 0
         | 0 0 verdict 3155587200 0

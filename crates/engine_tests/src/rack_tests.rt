@@ -5,9 +5,9 @@ ghost use Rattle.radio_receiver.specs.Histories.{History};
 
 use crate::runs::{OF_A_PLAN, run_with, same};
 use crate::scene::outside_of;
-use feed_link::Gate;
 use memory_links::MemorySink;
 use memory_outside::MemoryOutside;
+use outside_traits::Gate;
 use radio_engine::Status;
 use radio_receiver::{DcfReceiver, MsfReceiver, Receiver, WwvbReceiver};
 use receiver_rack::put_in_rack;

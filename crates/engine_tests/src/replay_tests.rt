@@ -74,7 +74,7 @@ fn a_reply_follows_the_rate(rt: HostRuntime) {
 
 // The dispersion is above the bound from the first page on.
 #[test]
-fn a_page_above_its_bound_tells_no_time(rt: HostRuntime) {
+fn a_page_above_its_bound_reports_no_time(rt: HostRuntime) {
     let station = r#"
         file s
         | bound = 500

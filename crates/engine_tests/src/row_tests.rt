@@ -189,7 +189,7 @@ fn a_holdover_without_a_value(rt: HostRuntime) {
 
 // The server can't be asked, and nothing can be received on the link: of two with one number the server is reported, since it is a feed.
 #[test]
-fn a_server_at_fault_is_told_before_a_link(rt: HostRuntime) {
+fn a_server_at_fault_is_reported_before_a_link(rt: HostRuntime) {
     let scene = r#"
         run serve --station s --during 2
         file s

@@ -3,9 +3,9 @@ ghost use Rattle.std.specs.Prelude.{◌≡◌, false};
 ghost use Rattle.memory_outside.specs.MemoryOutside.{is_gate_out};
 ghost use Rattle.receiver_rack.specs.Racks.{IsRack};
 
-use feed_link::Gate;
 use memory_links::MemorySink;
 use memory_outside::MemoryOutside;
+use outside_traits::Gate;
 use radio_engine::{Status, run_station};
 use radio_receiver::{DcfReceiver, MsfReceiver, Receiver, WwvbReceiver};
 use receiver_rack::put_in_rack;

@@ -82,7 +82,7 @@ fn a_station_with_nothing_in_it_is_served(rt: HostRuntime) {
 }
 
 #[test]
-fn a_link_that_ends_is_told(rt: HostRuntime) {
+fn a_link_that_ends_is_reported(rt: HostRuntime) {
     let scene = r#"
         run serve --station s --during 2
         file s
@@ -232,7 +232,7 @@ fn a_bad_line_ends_its_feed_alone(rt: HostRuntime) {
 }
 
 #[test]
-fn a_full_journal_is_told(rt: HostRuntime) {
+fn a_full_journal_is_reported(rt: HostRuntime) {
     let scene = r#"
         run serve --station s --during 0 --limit 1
         writes
@@ -246,7 +246,7 @@ fn a_full_journal_is_told(rt: HostRuntime) {
 
 // A bad line has a lesser number than a full journal, and a read that failed than a bad line, on whatever feed.
 #[test]
-fn the_least_number_is_told(rt: HostRuntime) {
+fn the_least_number_is_reported(rt: HostRuntime) {
     let full = r#"
         run serve --station s --during 0 --limit 1
         file a
@@ -274,7 +274,7 @@ fn the_least_number_is_told(rt: HostRuntime) {
 
 // Of two with one number the first is reported; the rest of the station goes on.
 #[test]
-fn the_first_of_two_is_told(rt: HostRuntime) {
+fn the_first_of_two_is_reported(rt: HostRuntime) {
     let both = r#"
         link
         hears 5 client 303000000 request

@@ -7,7 +7,7 @@ use Rattle.std.specs.Prelude.{slice_index_or}
 use Rattle.std.proofs.lemmas.Bool.{cases_Bool, eqb-true}
 use Rattle.std.proofs.lemmas.List.{append-nil, length-append, map-append, take-append-drop}
 use Rattle.atomic_table.specs.Seated.{TableId}
-use Rattle.feed_link.specs.Told.{SourceState}
+use Rattle.outside_traits.specs.States.{SourceState}
 use Rattle.file_reader.specs.Ends.{EndsReading}
 use Rattle.file_reader.specs.declared.reader.FileEnd.TheVariants as file
 use Rattle.journal_entry.specs.declared.entry.Entry.{Entry}
@@ -16,7 +16,7 @@ use Rattle.leap_file.proofs.ReaderLaws.{says, says_end, says_more, says_whole}
 use Rattle.leap_file.specs.Lines.{line_says}
 use Rattle.leap_file.specs.Reading.{Finishes, HasRead, Takes, counted}
 use Rattle.tick_units.specs.Log.{lines_of}
-use Rattle.leap_file.specs.Rows.{bad_behind, bad_line, leap_seconds, may_stand}
+use Rattle.leap_file.specs.Rows.{bad_after, bad_line, leap_seconds, may_stand}
 use Rattle.leap_file.specs.declared.part.LeapLine.{LeapLine}
 use Rattle.leap_file.specs.declared.part.LeapLine.TheVariants.{Nothing, Numbers, Bad}
 use Rattle.leap_file.specs.declared.reader.BadLeap.{BadLeap}
@@ -90,13 +90,13 @@ module _ (reader new : LeapReader) (start : ℕ) (share : Share) (bytes : List �
 -- ---- a piece
 
 -- bytes after a bad line change neither that line nor what is due
-pub passed_stays : (start : ℕ) (share : Share) (front more : List ℕ) (line : ℕ) → HasPassed start share front line → HasPassed start share (front ++ more) line
-passed_stays start share front more line h = by (bad_line false front) refl h.bad
+pub passed_stays : (start : ℕ) (share : Share) (prefix more : List ℕ) (line : ℕ) → HasPassed start share prefix line → HasPassed start share (prefix ++ more) line
+passed_stays start share prefix more line h = by (bad_line false prefix) refl h.bad
   where
-    by : (told : Option ℕ) → bad_line false front ≡ told → option_map counted told ≡ Some line → HasPassed start share (front ++ more) line
+    by : (reported : Option ℕ) → bad_line false prefix ≡ reported → option_map counted reported ≡ Some line → HasPassed start share (prefix ++ more) line
     by None is counts = cc
     by (Some number) is counts =
-        let stays = stays_bad front more number is in
+        let stays = stays_bad prefix more number is in
         record {
           kept = subst (λ seconds. Keeps share (notices_of share.begun.number start seconds)) (sym stays.seconds) h.kept;
           bad = ap (option_map counted) stays.bad ∙ counts;
@@ -104,13 +104,13 @@ passed_stays start share front more line h = by (bad_line false front) refl h.ba
 
 -- ---- the number of a bad line is that of a line
 
-bad_small : (before : Option Row) (number : ℕ) (lines : List LeapLine) (bad : ℕ) → bad_behind before number lines ≡ Some bad → bad < number + length lines
+bad_small : (before : Option Row) (number : ℕ) (lines : List LeapLine) (bad : ℕ) → bad_after before number lines ≡ Some bad → bad < number + length lines
 bad_small before number [] bad is = cc
 bad_small before number (Nothing ∷ more) bad is = let h = bad_small before (number + 1) more bad is in omega arith
 bad_small before number (Bad ∷ more) bad is = let same : number ≡ bad = cc in omega arith
 bad_small before number (Numbers row ∷ more) bad is = by (may_stand before row) is (λ h. bad_small (Some row) (number + 1) more bad h)
   where
-    by : (stands : Bool) → (if stands then bad_behind (Some row) (number + 1) more else Some number) ≡ Some bad → (bad_behind (Some row) (number + 1) more ≡ Some bad → bad < number + 1 + length more) → bad < number + suc (length more)
+    by : (stands : Bool) → (if stands then bad_after (Some row) (number + 1) more else Some number) ≡ Some bad → (bad_after (Some row) (number + 1) more ≡ Some bad → bad < number + 1 + length more) → bad < number + suc (length more)
     by true e rest = let h = rest e in omega arith
     by false e rest = let same : number ≡ bad = cc in omega arith
 
@@ -133,24 +133,24 @@ line_small false bytes bad is =
     omega arith
 line_small true bytes bad is =
     let few = says_few [] (bytes ++ 10 ∷ []) in
-    let small = bad_small None 1 (says (bytes ++ 10 ∷ [])) bad (sym (ap (bad_behind None 1) (says_whole bytes)) ∙ is) in
+    let small = bad_small None 1 (says (bytes ++ 10 ∷ [])) bad (sym (ap (bad_after None 1) (says_whole bytes)) ∙ is) in
     omega (arith, length-append bytes (10 ∷ []))
 
 -- so it is reported as it is
 pub exact : (whole : Bool) (bytes : List ℕ) (line : ℕ) → length bytes ≤ 2 ^ 16 → option_map counted (bad_line whole bytes) ≡ Some line → bad_line whole bytes ≡ Some line
 exact whole bytes line most counts = by (bad_line whole bytes) refl counts
   where
-    by : (told : Option ℕ) → bad_line whole bytes ≡ told → option_map counted told ≡ Some line → bad_line whole bytes ≡ Some line
+    by : (reported : Option ℕ) → bad_line whole bytes ≡ reported → option_map counted reported ≡ Some line → bad_line whole bytes ≡ Some line
     by None is e = cc
     by (Some number) is e =
         let small = line_small whole bytes number is in
-        let told : counted number ≡ line = cc in
-        let same : number ≡ line = omega (arith, told) in
+        let reported : counted number ≡ line = cc in
+        let same : number ≡ line = omega (arith, reported) in
         is ∙ ap Some same
 
 -- ---- the end of the file
 
-uncounted : (told : Option ℕ) → option_map counted told ≡ None → told ≡ None
+uncounted : (reported : Option ℕ) → option_map counted reported ≡ None → reported ≡ None
 uncounted None e = refl
 uncounted (Some number) e = cc
 
@@ -170,5 +170,5 @@ up_to bytes piece place within = append_assoc bytes (take place piece) (slice_in
     one_on : (n : ℕ) → n + 1 ≡ suc n
     one_on n = omega arith
 
-pub and_behind : (bytes piece : List ℕ) (place : ℕ) → (bytes ++ take place piece) ++ drop place piece ≡ bytes ++ piece
-and_behind bytes piece place = append_assoc bytes (take place piece) (drop place piece) ∙ ap (λ (l : List ℕ). bytes ++ l) (take-append-drop place piece)
+pub and_later : (bytes piece : List ℕ) (place : ℕ) → (bytes ++ take place piece) ++ drop place piece ≡ bytes ++ piece
+and_later bytes piece place = append_assoc bytes (take place piece) (drop place piece) ∙ ap (λ (l : List ℕ). bytes ++ l) (take-append-drop place piece)

@@ -4,11 +4,11 @@ use Rattle.std.specs.Prelude.{All}
 use Rattle.std.proofs.lemmas.Grind.{flat_map-append}
 use Rattle.std.proofs.lemmas.List.{append-nil}
 use Rattle.std.proofs.lemmas.List.Elements.{All-nil, All-push}
-use Rattle.feed_link.specs.Faults.{RoseByOne}
-use Rattle.feed_link.specs.Told.{NetEvent, LinkState, Adds}
-use Rattle.feed_link.specs.Told.NetEvent.{Ended}
-use Rattle.feed_link.specs.declared.outside.Address.{Address}
-use Rattle.feed_link.proofs.ToldLaws.{Adds-none, Adds-more}
+use Rattle.outside_traits.specs.Faults.{RoseByOne}
+use Rattle.outside_traits.specs.States.{NetEvent, LinkState, Adds}
+use Rattle.outside_traits.specs.States.NetEvent.{Ended}
+use Rattle.outside_traits.specs.declared.outside.Address.{Address}
+use Rattle.outside_traits.proofs.StateLaws.{Adds-none, Adds-more}
 use Rattle.journal_entry.specs.declared.entry.Entry.{Entry}
 use Rattle.page_cell.specs.declared.view.Claim.{Claim}
 use Rattle.poll_core.specs.Histories.{Event}
@@ -46,14 +46,14 @@ GoOn-push server before (first ∷ events) event go is not_end =
 pub events_in-push : (server : Address) (rounds : List Round) (round : Round) → events_in server (rounds ++ round ∷ []) ≡ events_in server rounds ++ events_of server round
 events_in-push server rounds round = flat_map-append (events_of server) rounds (round ∷ []) ∙ ap (λ (l : List NetEvent). events_in server rounds ++ l) (append-nil (events_of server round))
 
-AreWhole-push-behind : (server : Address) (before : List NetEvent) (rounds : List Round) (round : Round) → AreWhole server before rounds → IsWhole server (before ++ events_in server rounds) round →
+AreWhole-push-later : (server : Address) (before : List NetEvent) (rounds : List Round) (round : Round) → AreWhole server before rounds → IsWhole server (before ++ events_in server rounds) round →
     AreWhole server before (rounds ++ round ∷ [])
-AreWhole-push-behind server before [] round are is = (subst (λ (l : List NetEvent). IsWhole server l round) (append-nil before) is, tt)
-AreWhole-push-behind server before (first ∷ rounds) round are is =
-    (are.0, AreWhole-push-behind server (before ++ events_of server first) rounds round are.1 (subst (λ (l : List NetEvent). IsWhole server l round) (sym (append_assoc before (events_of server first) (events_in server rounds))) is))
+AreWhole-push-later server before [] round are is = (subst (λ (l : List NetEvent). IsWhole server l round) (append-nil before) is, tt)
+AreWhole-push-later server before (first ∷ rounds) round are is =
+    (are.0, AreWhole-push-later server (before ++ events_of server first) rounds round are.1 (subst (λ (l : List NetEvent). IsWhole server l round) (sym (append_assoc before (events_of server first) (events_in server rounds))) is))
 
 pub AreWhole-push : (server : Address) (rounds : List Round) (round : Round) → AreWhole server [] rounds → IsWhole server (events_in server rounds) round → AreWhole server [] (rounds ++ round ∷ [])
-AreWhole-push server rounds round are is = AreWhole-push-behind server [] rounds round are is
+AreWhole-push server rounds round are is = AreWhole-push-later server [] rounds round are is
 
 -- the same polls, with the link and the claim as they are now
 abbrev pub on_to : Session → LinkState → Claim → (full : Bool) → Session
@@ -64,7 +64,7 @@ pub polled_none : (server : Address) (link : LinkState) (claim : Claim) (limit :
     Polled poll (session_at server link link (record { begun = claim; claim = claim; limit = limit; full = false })) 0
 polled_none server link claim limit poll polled = record {
   made = [];
-  done = record { told = Adds-none link.events; polled = polled; kept = keeps_none claim limit; no_fault = refl };
+  done = record { reported = Adds-none link.events; polled = polled; kept = keeps_none claim limit; no_fault = refl };
   whole = tt;
   size = refl;
   open_all = All-nil IsOpen;
@@ -75,8 +75,8 @@ module _ (session : Session) where
   pub done_more : (poll now : Poll) (last : LinkState) (events : List NetEvent) (event : NetEvent) → HasDone poll session events →
       entry_after session.share.begun.number session.server events event ≡ [] → Adds session.link.events last.events (event ∷ []) → last.faults ≡ session.link.faults →
       HasPolled now session.server (history_of events ++ exchanges_of event) → HasDone now (record session { link = last }) (events ++ event ∷ [])
-  done_more poll now last events event h none told same polled = record {
-    told = Adds-more session.begun.events session.link.events last.events events (event ∷ []) h.told told;
+  done_more poll now last events event h none reported same polled = record {
+    reported = Adds-more session.begun.events session.link.events last.events events (event ∷ []) h.reported reported;
     polled = subst (λ (l : List Event). HasPolled now session.server l) (sym (history-push events event)) polled;
     kept = subst (λ (due : List Entry). Keeps session.share due)
         (sym (due_link-push session.share.begun.number session.server events event ∙ ap (λ (l : List Entry). due_link session.share.begun.number session.server events ++ l) none ∙ append-nil (due_link session.share.begun.number session.server events))) h.kept;
@@ -89,8 +89,8 @@ module _ (session : Session) where
       HasPolled now session.server (history_of events ++ exchanges_of event) →
       ((due : List Entry) → Keeps session.share due → Keeps (record session.share { claim = claim; full = full }) (due ++ entry ∷ [])) →
       HasDone now (on_to session last claim full) (events ++ event ∷ [])
-  done_kept poll now last claim full events event entry h one told same polled keeps = record {
-    told = Adds-more session.begun.events session.link.events last.events events (event ∷ []) h.told told;
+  done_kept poll now last claim full events event entry h one reported same polled keeps = record {
+    reported = Adds-more session.begun.events session.link.events last.events events (event ∷ []) h.reported reported;
     polled = subst (λ (l : List Event). HasPolled now session.server l) (sym (history-push events event)) polled;
     kept = subst (λ (due : List Entry). Keeps (record session.share { claim = claim; full = full }) due)
         (sym (due_link-push session.share.begun.number session.server events event ∙ ap (λ (l : List Entry). due_link session.share.begun.number session.server events ++ l) one)) (keeps (due_link session.share.begun.number session.server events) h.kept);
@@ -115,7 +115,7 @@ module _ (session : Session) where
         RunsPolls session polls LinkEnd
     ends_link poll polls round lt done whole ended = record {
       events = events_in session.server made ++ events_of session.server round;
-      told = done.told;
+      reported = done.reported;
       kept = done.kept;
       ends = (made, round, sym (events_in-push session.server made round), AreWhole-push session.server made round are whole, omega (arith, size, lt), all, ended, done.no_fault);
     }
@@ -124,9 +124,9 @@ module _ (session : Session) where
     pub ends_cut : (polls : ℕ) (cut : List NetEvent) → count < polls → Adds session.begun.events session.link.events (events_in session.server made ++ cut) →
         Keeps session.share (due_link session.share.begun.number session.server (events_in session.server made ++ cut)) → IsCut session.server (events_in session.server made) cut →
         RoseByOne session.begun.faults session.link.faults → RunsPolls session polls LinkFault
-    ends_cut polls cut lt told kept is rose = record {
+    ends_cut polls cut lt reported kept is rose = record {
       events = events_in session.server made ++ cut;
-      told = told;
+      reported = reported;
       kept = kept;
       ends = (made, cut, refl, are, omega (arith, size, lt), all, is, rose);
     }
@@ -135,7 +135,7 @@ module _ (session : Session) where
   pub ends_all : (poll : Poll) (polls : ℕ) → Polled poll session polls → RunsPolls session polls Rounds
   ends_all poll polls p = record {
     events = events_in session.server p.made;
-    told = p.done.told;
+    reported = p.done.reported;
     kept = p.done.kept;
     ends = (p.made, refl, p.whole, p.size, p.open_all, p.done.no_fault);
   }

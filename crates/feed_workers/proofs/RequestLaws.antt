@@ -7,15 +7,15 @@ use Rattle.std.specs.List.{sum_by}
 use Rattle.std.proofs.lemmas.Bool.{true≢false}
 use Rattle.std.proofs.lemmas.List.Elements.{All-nil, All-cons, All-push, All-head, All-tail}
 use Rattle.std.proofs.lemmas.List.Sums.{sum_by-append, sum_by-cons}
-use Rattle.feed_link.specs.Told.{NetEvent}
-use Rattle.feed_link.specs.Told.NetEvent.{Came, Silent, Ended, Timed, Went}
-use Rattle.feed_link.specs.declared.outside.Address.{Address}
+use Rattle.outside_traits.specs.States.{NetEvent}
+use Rattle.outside_traits.specs.States.NetEvent.{Came, Silent, Ended, Timed, Went}
+use Rattle.outside_traits.specs.declared.outside.Address.{Address}
 use Rattle.feed_workers.specs.Polling.{EndsPolls}
 use Rattle.feed_workers.specs.Polls.{Round, events_of, events_in, asking, is_hearing, GoOn, IsWhole, AreWhole}
 use Rattle.feed_workers.specs.declared.work.PollEnd.TheVariants.{Rounds}
 
-abbrev IsHeard : NetEvent → Type 0
-IsHeard event = is_hearing event ≡ true
+abbrev IsHearing : NetEvent → Type 0
+IsHearing event = is_hearing event ≡ true
 
 -- a request was sent
 abbrev pub sent_by : NetEvent → ℕ
@@ -25,14 +25,14 @@ sent_by Ended = 0
 sent_by (Timed moment) = 0
 sent_by (Went to bytes) = 1
 
-all_heard : (server : Address) (before events : List NetEvent) → GoOn server before events → All IsHeard events
-all_heard server before [] go = All-nil IsHeard
-all_heard server before (event ∷ events) go = All-cons IsHeard event events go.0 (all_heard server (before ++ event ∷ []) events go.2)
+all_received : (server : Address) (before events : List NetEvent) → GoOn server before events → All IsHearing events
+all_received server before [] go = All-nil IsHearing
+all_received server before (event ∷ events) go = All-cons IsHearing event events go.0 (all_received server (before ++ event ∷ []) events go.2)
 
 -- after its request a whole round has hearings alone
-pub whole_is_heard : (server : Address) (before : List NetEvent) (round : Round) → IsWhole server before round → All IsHeard (round.earlier ++ round.last ∷ [])
-whole_is_heard server before round whole =
-    All-push IsHeard round.earlier round.last (all_heard server (before ++ asking server round.moment) round.earlier whole.goes) whole.hearing
+pub whole_is_received : (server : Address) (before : List NetEvent) (round : Round) → IsWhole server before round → All IsHearing (round.earlier ++ round.last ∷ [])
+whole_is_received server before round whole =
+    All-push IsHearing round.earlier round.last (all_received server (before ++ asking server round.moment) round.earlier whole.goes) whole.hearing
 
 none_sent : (event : NetEvent) → is_hearing event ≡ true → sent_by event ≡ 0
 none_sent (Came from at bytes) is = refl
@@ -41,12 +41,12 @@ none_sent Ended is = refl
 none_sent (Timed moment) is = refl
 none_sent (Went to bytes) is = absurd (true≢false (sym is))
 
-none_in : (events : List NetEvent) → All IsHeard events → sum_by sent_by events ≡ 0
+none_in : (events : List NetEvent) → All IsHearing events → sum_by sent_by events ≡ 0
 none_in [] all = refl
 none_in (event ∷ events) all =
     let both = sum_by-cons sent_by event events in
-    let first = none_sent event (All-head IsHeard event events all) in
-    let rest = none_in events (All-tail IsHeard event events all) in
+    let first = none_sent event (All-head IsHearing event events all) in
+    let rest = none_in events (All-tail IsHearing event events all) in
     omega (arith, both, first, rest)
 
 -- a whole round sends one request
@@ -54,7 +54,7 @@ pub one_request : (server : Address) (before : List NetEvent) (round : Round) �
 one_request server before round whole =
     let heard = round.earlier ++ round.last ∷ [] in
     let asked : sum_by sent_by (asking server round.moment) ≡ 1 = refl in
-    let none = none_in heard (whole_is_heard server before round whole) in
+    let none = none_in heard (whole_is_received server before round whole) in
     let both = sum_by-append sent_by (asking server round.moment) heard in
     omega (arith, asked, none, both)
 

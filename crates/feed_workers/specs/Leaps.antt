@@ -1,7 +1,7 @@
 -- What the worker of a leap second file does with its bytes, and why it ends. All of it is this project's own.
 use Rattle.std.specs.Prelude.{◌≡◌, ℕ, ◌⊎◌, ◌^◌, Bool, true, false, Some, None, List, map}
-use Rattle.feed_link.specs.Told.{SourceState}
-use Rattle.file_reader.specs.Ends.{HasReadFront, EndsReading}
+use Rattle.outside_traits.specs.States.{SourceState}
+use Rattle.file_reader.specs.Ends.{HasReadPrefix, EndsReading}
 use Rattle.file_reader.specs.declared.reader.FileEnd.TheVariants as file
 use Rattle.journal_entry.specs.declared.entry.Entry.{Entry}
 use Rattle.journal_entry.specs.declared.entry.What.TheVariants.{Notice}
@@ -32,7 +32,7 @@ due_leap feed start whole bytes = notices_of feed start (leap_seconds whole byte
 abbrev pub EndsLeap : ℕ → SourceState → SourceState → List ℕ → (whole : Bool) → LogEnd → Type 0
 EndsLeap most log log_now bytes whole Whole = (whole ≡ true) × EndsReading file.Whole most log log_now bytes × (bad_line true bytes ≡ None)
 EndsLeap most log log_now bytes whole (BadLine line) =
-    ((whole ≡ false) × HasReadFront most log log_now bytes × (bad_line false bytes ≡ Some line))
+    ((whole ≡ false) × HasReadPrefix most log log_now bytes × (bad_line false bytes ≡ Some line))
     ⊎ ((whole ≡ true) × EndsReading file.Whole most log log_now bytes × (bad_line false bytes ≡ None) × (bad_line true bytes ≡ Some line))
 EndsLeap most log log_now bytes whole Fault = (whole ≡ false) × EndsReading file.Fault most log log_now bytes × (bad_line false bytes ≡ None)
 EndsLeap most log log_now bytes whole Long = (whole ≡ false) × EndsReading file.TooLong most log log_now bytes × (bad_line false bytes ≡ None)

@@ -4,7 +4,7 @@
 -- and Noticing are scaffolding: one piece of a log, one hearing of a round and one piece of a leap second file at a time.
 pub mod Keeping
 pub mod Logs
-pub mod Hearing
+pub mod Receiving
 pub mod Polls
 pub mod Polling
 pub mod Asking

@@ -1,7 +1,7 @@
 -- What a radio's worker does with the bytes of its log, and why it ends. All of it is this project's own.
 use Rattle.std.specs.Prelude.{◌≡◌, ℕ, ◌⊎◌, Some, None, List}
-use Rattle.feed_link.specs.Told.{SourceState}
-use Rattle.file_reader.specs.Ends.{HasReadFront, EndsReading}
+use Rattle.outside_traits.specs.States.{SourceState}
+use Rattle.file_reader.specs.Ends.{HasReadPrefix, EndsReading}
 use Rattle.file_reader.specs.declared.reader.FileEnd.TheVariants as file
 use Rattle.log_decoder.specs.Decoding.{most_of_a_log}
 use Rattle.log_decoder.specs.Due.{due_log}
@@ -20,7 +20,7 @@ use Rattle.feed_workers.specs.declared.work.LogWork.{LogWork}
 abbrev pub EndsLog : ℕ → SourceState → SourceState → List ℕ → LogEnd → Type 0
 EndsLog most log log_now bytes Whole = EndsReading file.Whole most log log_now bytes × (bad_at_end bytes ≡ None)
 EndsLog most log log_now bytes (BadLine line) =
-    (HasReadFront most log log_now bytes × (bad_line bytes ≡ Some line))
+    (HasReadPrefix most log log_now bytes × (bad_line bytes ≡ Some line))
     ⊎ (EndsReading file.Whole most log log_now bytes × (bad_line bytes ≡ None) × (bad_at_end bytes ≡ Some line))
 EndsLog most log log_now bytes Fault = EndsReading file.Fault most log log_now bytes × (bad_line bytes ≡ None)
 EndsLog most log log_now bytes Long = EndsReading file.TooLong most log log_now bytes × (bad_line bytes ≡ None)

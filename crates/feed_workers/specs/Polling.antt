@@ -1,9 +1,9 @@
 -- What a poller's worker does, and why it ends. All of it is this project's own.
 use Rattle.std.specs.Prelude.{◌≡◌, ℕ, ◌<◌, List, [], ◌∷◌, ◌++◌, All, length}
-use Rattle.feed_link.specs.Faults.{RoseByOne}
-use Rattle.feed_link.specs.Told.{NetEvent, LinkState, Adds}
-use Rattle.feed_link.specs.Told.NetEvent.{Ended}
-use Rattle.feed_link.specs.declared.outside.Address.{Address}
+use Rattle.outside_traits.specs.Faults.{RoseByOne}
+use Rattle.outside_traits.specs.States.{NetEvent, LinkState, Adds}
+use Rattle.outside_traits.specs.States.NetEvent.{Ended}
+use Rattle.outside_traits.specs.declared.outside.Address.{Address}
 use Rattle.page_cell.specs.Passes.{claim_of}
 use Rattle.feed_workers.specs.Keeping.{Keeps, Share, share_of}
 use Rattle.feed_workers.specs.Polls.{Round, events_in, AreWhole, IsOpen, IsCut, due_link}
@@ -43,6 +43,6 @@ session_of state limit before now work =
 -- what a poller's worker did: its link's events grew by those of its polls, and the entries that are due for them were kept
 pub record RunsPolls (session : Session) (polls : ℕ) (end : PollEnd) : Type 0 where
   pub events : List NetEvent
-  pub told : Adds session.begun.events session.link.events events
+  pub reported : Adds session.begun.events session.link.events events
   pub kept : Keeps session.share (due_link session.share.begun.number session.server events)
   pub ends : EndsPolls session.server polls session.begun.faults session.link.faults events end

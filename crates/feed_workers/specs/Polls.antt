@@ -2,9 +2,9 @@
 -- own: no pacing, and up to eight hearings a round, so that a late or a strange datagram does not spoil the polls after it).
 use Rattle.std.specs.Prelude.{◌≡◌, ℕ, ◌≤◌, ◌⊎◌, Bool, true, false, is_ok, Result, Ok, Err, List, [], ◌∷◌, ◌++◌, length}
 use Rattle.std.specs.List.{flat_map}
-use Rattle.feed_link.specs.Told.{NetEvent}
-use Rattle.feed_link.specs.Told.NetEvent.{Came, Silent, Ended, Timed, Went}
-use Rattle.feed_link.specs.declared.outside.Address.{Address}
+use Rattle.outside_traits.specs.States.{NetEvent}
+use Rattle.outside_traits.specs.States.NetEvent.{Came, Silent, Ended, Timed, Went}
+use Rattle.outside_traits.specs.declared.outside.Address.{Address}
 use Rattle.journal_entry.specs.declared.entry.Entry.{Entry}
 use Rattle.journal_entry.specs.declared.entry.What.{What}
 use Rattle.journal_entry.specs.declared.entry.What.TheVariants.{Sample, Declined}

@@ -1,12 +1,12 @@
 //! Keeps an entry that is due.
 ghost use Rattle.std.specs.Prelude.{◌++◌, ◌∷◌, [], List, length};
-ghost use Rattle.journal_entry.specs.Lawful.{IsLawfulWhat};
+ghost use Rattle.journal_entry.specs.Valid.{IsValidWhat};
 ghost use Rattle.journal_entry.specs.declared.entry.Entry.{Entry};
 ghost use Rattle.feed_workers.specs.Keeping.{IsOfFeed, Keeps, share_of};
 ghost use Rattle.page_cell.specs.declared.view.Claim.{Claim};
 
-use feed_link::Gate;
 use journal_entry::Entry;
+use outside_traits::Gate;
 use page_cell::FeedPass;
 use std::sync::Wait;
 use verdict_journal::{Hub, HubName};
@@ -29,9 +29,9 @@ pub trait Recorder {
     ghost limit: { ℕ };
 
     // Keeps an entry that is due, where there is room.
-    fn keep(&self, pass: &mut FeedPass, entry: Entry, full: &mut bool)
+    fn enter(&self, pass: &mut FeedPass, entry: Entry, full: &mut bool)
         requires pass { IsOfFeed table sources entry.feed pass.old }
-        requires lawful { IsLawfulWhat entry.what }
+        requires valid { IsValidWhat entry.what }
         ensures pass { IsOfFeed table sources entry.feed pass.new }
         ensures kept { (begun : Claim) (due : List Entry) →
             Keeps (share_of begun pass.old limit full.old) due →
@@ -56,7 +56,7 @@ fn append<N: HubName, R: Wait>(
     full: &mut bool,
 )
     requires pass { IsOfFeed N.table (length N.settings.sources) entry.feed pass.old }
-    requires lawful { IsLawfulWhat entry.what }
+    requires valid { IsValidWhat entry.what }
     ensures pass { IsOfFeed N.table (length N.settings.sources) entry.feed pass.new }
     ensures kept { (begun : Claim) (due : List Entry) →
         Keeps (share_of begun pass.old N.limit full.old) due →
@@ -79,7 +79,7 @@ impl<N: HubName, R: Wait, G: Gate> Recorder for Post<'_, N, R, G> {
 
     ghost limit = { N.limit };
 
-    fn keep(&self, pass: &mut FeedPass, entry: Entry, full: &mut bool) {
+    fn enter(&self, pass: &mut FeedPass, entry: Entry, full: &mut bool) {
         let feed = entry.feed;
         self.gate.pass(self.rt, feed, BEFORE);
         append(self.rt, self.hub, pass, entry, full);

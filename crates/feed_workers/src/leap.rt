@@ -5,19 +5,19 @@ ghost use Rattle.feed_workers.specs.Keeping.{IsOfFeed, Keeps, share_of};
 ghost use Rattle.feed_workers.specs.Leaps.{RunsLeap, leap_intake, most_of_a_list, notices_of};
 ghost use Rattle.feed_workers.specs.Logs.{intake_of};
 ghost use Rattle.feed_workers.specs.Noticing.{EndsList, EndsNoticing, HasNoticed, HasPassed, NoticesByte};
-ghost use Rattle.feed_link.specs.Told.{SourceState};
+ghost use Rattle.outside_traits.specs.States.{SourceState};
 ghost use Rattle.file_reader.specs.Pieces.{TakesOrStops};
 ghost use Rattle.journal_entry.specs.declared.entry.Entry.{Entry};
 ghost use Rattle.page_cell.specs.declared.view.Claim.{Claim};
 ghost use Rattle.page_cell.specs.Passes.{claim_of};
-ghost use Rattle.tick_units.specs.Years.{end_of_told};
+ghost use Rattle.tick_units.specs.Years.{end_of_supported};
 
 use crate::keeping::{Post, Recorder};
 use crate::work::LogWork;
-use feed_link::{Gate, Source};
 use file_reader::{FileEnd, LogEnd, PieceTaker, read_pieces};
 use journal_entry::{Entry, What};
 use leap_file::{BadLeap, LeapReader};
+use outside_traits::{Gate, Source};
 use page_cell::FeedPass;
 use std::sync::Wait;
 use tick_units::Local;
@@ -35,7 +35,7 @@ fn notice<K: Recorder>(
     full: &mut bool,
 )
     requires pass { IsOfFeed K.table K.sources (claim_of pass.old.view).number pass.old }
-    requires told { IfSome found (λ second. second < end_of_told) }
+    requires reported { IfSome found (λ second. second < end_of_supported) }
     ensures pass { IsOfFeed K.table K.sources (claim_of pass.old.view).number pass.new }
     ensures kept { (begun : Claim) (due : List Entry) →
         Keeps (share_of begun pass.old K.limit full.old) due →
@@ -48,7 +48,7 @@ fn notice<K: Recorder>(
             at: start,
             what: What::Notice(second),
         };
-        recorder.keep(pass, entry, full);
+        recorder.enter(pass, entry, full);
     }
 }
 

@@ -1,13 +1,13 @@
 //! The worker of a server, which polls it.
 ghost use Rattle.std.specs.Prelude.{◌≡◌, ◌≤◌, ◌<◌, ◌+◌, ◌++◌, ◌∷◌, [], ℕ, List, Option, None, Some, is_ok, length, IfSome, IfNone};
 ghost use Rattle.std.specs.Option.{ForSome};
-ghost use Rattle.feed_link.specs.Told.{NetEvent, LinkState};
-ghost use Rattle.feed_link.specs.declared.outside.Address.{Address};
-ghost use Rattle.feed_workers.specs.Asking.{HasDone, HearsOne, Polled};
+ghost use Rattle.outside_traits.specs.States.{NetEvent, LinkState};
+ghost use Rattle.outside_traits.specs.declared.outside.Address.{Address};
+ghost use Rattle.feed_workers.specs.Asking.{HasDone, ReceivesOne, Polled};
 ghost use Rattle.feed_workers.specs.Keeping.{IsOfFeed, share_of};
 ghost use Rattle.feed_workers.specs.Polling.{RunsPolls, session_at, session_of};
 ghost use Rattle.feed_workers.specs.Polls.{what_of};
-ghost use Rattle.journal_entry.specs.Lawful.{IsLawfulWhat};
+ghost use Rattle.journal_entry.specs.Valid.{IsValidWhat};
 ghost use Rattle.page_cell.specs.declared.view.Claim.{Claim};
 ghost use Rattle.page_cell.specs.Passes.{claim_of};
 ghost use Rattle.poll_core.specs.Histories.{Event, judge};
@@ -16,8 +16,8 @@ ghost use Rattle.poll_core.specs.Polling.{HasPolled, asked_at};
 
 use crate::keeping::{Post, Recorder};
 use crate::work::{PollEnd, PollWork};
-use feed_link::{Address, Arrival, Failed, Gate, Hearing, Link};
 use journal_entry::{Entry, What};
+use outside_traits::{Address, Arrival, Failed, Gate, Hearing, Link};
 use page_cell::FeedPass;
 use poll_core::Poll;
 use std::sync::Wait;
@@ -71,7 +71,7 @@ fn judge_datagram(poll: &mut Poll, arrival: &Arrival, bytes: &[u8]) -> JudgedAns
         result.what ≡ what_of (judge server history arrival.now.at arrival.now.from bytes.now) }
     ensures accepted { (server : Address) (history : List Event) → HasPolled poll.old server history →
         result.accepted ≡ is_ok (judge server history arrival.now.at arrival.now.from bytes.now) }
-    ensures lawful { IsLawfulWhat result.what }
+    ensures valid { IsValidWhat result.what }
     ensures asked { ForSome (asked_at poll.new) (λ moment. moment ≤ arrival.now.at) }
 {
     match poll.answer(arrival.at, arrival.from, bytes) {
@@ -87,7 +87,7 @@ fn judge_datagram(poll: &mut Poll, arrival: &Arrival, bytes: &[u8]) -> JudgedAns
 }
 
 // One hearing; keeps the entry of a datagram.
-fn hear_once<L: Link, K: Recorder>(
+fn receive_once<L: Link, K: Recorder>(
     recorder: &K,
     feed: u32,
     poll: &mut Poll,
@@ -100,11 +100,11 @@ fn hear_once<L: Link, K: Recorder>(
     ensures link { L.opening link.new ≡ L.opening link.old }
     ensures pass { IsOfFeed K.table K.sources feed pass.new }
     ensures asked { ForSome (asked_at poll.new) (λ moment. moment ≤ (L.state link.new).latest) }
-    ensures hears { (server : Address) (before : LinkState) (begun : Claim) (events : List NetEvent) →
+    ensures receives { (server : Address) (before : LinkState) (begun : Claim) (events : List NetEvent) →
         let had = share_of begun pass.old K.limit full.old in
         let has = share_of begun pass.new K.limit full.new in
         HasDone poll.old (session_at server before (L.state link.old) had) events → begun.number ≡ feed →
-        HearsOne poll.new (session_at server before (L.state link.new) has) events result }
+        ReceivesOne poll.new (session_at server before (L.state link.new) has) events result }
 {
     let mut piece = [0u8; 1024];
     match link.hear(&mut piece) {
@@ -112,7 +112,7 @@ fn hear_once<L: Link, K: Recorder>(
             let judged = judge_datagram(poll, &arrival, &piece[..arrival.length]);
             let JudgedAnswer { what, accepted } = judged;
             let at = arrival.at;
-            recorder.keep(pass, Entry { feed, at, what }, full);
+            recorder.enter(pass, Entry { feed, at, what }, full);
             if accepted {
                 HearingEnd::Over
             } else {
@@ -156,7 +156,7 @@ fn poll_once<L: Link, K: Recorder>(
         Err(Failed) => return Some(PollEnd::LinkFault),
     }
     'hearings: for _ in 0..HEARINGS {
-        match hear_once(recorder, peer.feed, poll, link, pass, full) {
+        match receive_once(recorder, peer.feed, poll, link, pass, full) {
             HearingEnd::On => {}
             HearingEnd::Over => return None,
             HearingEnd::End => return Some(PollEnd::LinkEnd),

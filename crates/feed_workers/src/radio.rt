@@ -1,7 +1,7 @@
 //! The worker of a radio, which reads its log.
 ghost use Rattle.std.specs.Prelude.{◌≡◌, ◌≤◌, ◌<◌, ◌++◌, [], ℕ, List, None, length, take};
 ghost use Rattle.log_decoder.specs.Decoding.{HasDecoded, IsReady, feed_of};
-ghost use Rattle.feed_workers.specs.Hearing.{EndsHearing, HasHeard, HasMissed, Tuning};
+ghost use Rattle.feed_workers.specs.Receiving.{EndsReceiving, HasReceived, HasMissed, Tuning};
 ghost use Rattle.file_reader.specs.Pieces.{TakesOrStops};
 ghost use Rattle.feed_workers.specs.Keeping.{IsOfFeed, share_of};
 ghost use Rattle.feed_workers.specs.Logs.{Intake, RunsLog, intake_of, log_intake};
@@ -11,9 +11,9 @@ ghost use Rattle.tick_units.specs.declared.marks.Plan.{Plan};
 
 use crate::keeping::{Post, Recorder};
 use crate::work::LogWork;
-use feed_link::{Gate, Source};
 use file_reader::{FileEnd, LogEnd, PieceTaker, read_pieces};
 use log_decoder::{LOG_LIMIT, LogDecoder};
+use outside_traits::{Gate, Source};
 use page_cell::FeedPass;
 use pulse_log::Taken;
 use radio_receiver::{BoxedReceiver, Receiver};
@@ -49,15 +49,15 @@ fn take_line<K: Recorder, Q: Receiver>(
     ensures feed { feed_of decoder.new ≡ feed_of decoder.old }
     ensures pass { IsOfFeed K.table K.sources (feed_of decoder.old) pass.new }
     ensures heard { (tuning : Tuning) (begun : Claim) (before : List ℕ) →
-        HasHeard Q.stands_for decoder.old tuning (share_of begun pass.old K.limit full.old) before None →
+        HasReceived Q.stands_for decoder.old tuning (share_of begun pass.old K.limit full.old) before None →
         let read = before ++ take result.count bytes.now in
-        HasHeard Q.stands_for decoder.new tuning (share_of begun pass.new K.limit full.new) read result.found }
+        HasReceived Q.stands_for decoder.new tuning (share_of begun pass.new K.limit full.new) read result.found }
 {
     let Taken { count, found } = decoder.next_entry(bytes);
     match found {
         Ok(None) => Taken { count, found: None },
         Ok(Some(entry)) => {
-            recorder.keep(pass, entry, full);
+            recorder.enter(pass, entry, full);
             Taken { count, found: None }
         }
         Err(bad) => Taken {
@@ -68,7 +68,7 @@ fn take_line<K: Recorder, Q: Receiver>(
 }
 
 // Takes a piece of a log, or stops at a bad line, by its number.
-fn hear_piece<K: Recorder, Q: Receiver>(
+fn receive_piece<K: Recorder, Q: Receiver>(
     recorder: &K,
     decoder: &mut LogDecoder<Q>,
     pass: &mut FeedPass,
@@ -81,9 +81,9 @@ fn hear_piece<K: Recorder, Q: Receiver>(
     ensures feed { feed_of decoder.new ≡ feed_of decoder.old }
     ensures pass { IsOfFeed K.table K.sources (feed_of decoder.old) pass.new }
     ensures heard { (tuning : Tuning) (begun : Claim) (bytes : List ℕ) →
-        HasHeard Q.stands_for decoder.old tuning (share_of begun pass.old K.limit full.old) bytes None →
+        HasReceived Q.stands_for decoder.old tuning (share_of begun pass.old K.limit full.old) bytes None →
         let now = share_of begun pass.new K.limit full.new in
-        TakesOrStops (λ b. HasHeard Q.stands_for decoder.new tuning now b None) (λ line b. HasMissed tuning now b line)
+        TakesOrStops (λ b. HasReceived Q.stands_for decoder.new tuning now b None) (λ line b. HasMissed tuning now b line)
         (bytes ++ piece.now) result }
 {
     let mut rest = piece;
@@ -110,12 +110,12 @@ impl<K: Recorder, Q: Receiver> PieceTaker<u64> for Listening<'_, K, Q> {
     ghost use Rattle.std.specs.Borrow.{GName};
     ghost use Rattle.std.specs.Prelude.{◌^◌, ℕ, None};
     ghost use Rattle.log_decoder.specs.Decoding.{IsReady, feed_of};
-    ghost use Rattle.feed_workers.specs.Hearing.{Since, HasHeard, HasMissed};
+    ghost use Rattle.feed_workers.specs.Receiving.{Since, HasReceived, HasMissed};
     ghost use Rattle.feed_workers.specs.Keeping.{IsOfFeed, share_of};
 
     ghost Case = { Since };
 
-    ghost has_taken = { λ listening since bytes. HasHeard Q.stands_for listening.decoder.now since.tuning
+    ghost has_taken = { λ listening since bytes. HasReceived Q.stands_for listening.decoder.now since.tuning
         (share_of since.begun listening.pass.now K.limit listening.full) bytes None };
 
     ghost has_stopped = { λ listening since line bytes. HasMissed since.tuning
@@ -133,7 +133,7 @@ impl<K: Recorder, Q: Receiver> PieceTaker<u64> for Listening<'_, K, Q> {
     ghost room = { λ listening. 2 ^ 64 };
 
     fn take(&mut self, piece: &[u8]) -> Result<(), u64> {
-        hear_piece(
+        receive_piece(
             self.recorder,
             self.decoder,
             self.pass,
@@ -146,7 +146,7 @@ impl<K: Recorder, Q: Receiver> PieceTaker<u64> for Listening<'_, K, Q> {
 // Why the reading of a log ended, by what came of its pieces.
 fn end_of<Q: Receiver>(read: Result<FileEnd, u64>, decoder: &LogDecoder<Q>) -> LogEnd
     ensures { (tuning : Tuning) (intake : Intake) →
-        EndsHearing Q.stands_for decoder.now tuning intake read → RunsLog tuning.plan tuning.delay intake result }
+        EndsReceiving Q.stands_for decoder.now tuning intake read → RunsLog tuning.plan tuning.delay intake result }
 {
     match read {
         Ok(FileEnd::Whole) => match decoder.finish() {

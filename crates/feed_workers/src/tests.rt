@@ -3,14 +3,14 @@
 ghost use Rattle.std.specs.Prelude.{◌≡◌, ◌<◌, ◌≤◌, [], All, length};
 ghost use Rattle.feed_workers.specs.Keeping.{IsOfFeed};
 ghost use Rattle.page_cell.specs.Passes.{claim_of, key_of};
-ghost use Rattle.system_fold.specs.Settings.{AreLawful};
+ghost use Rattle.system_fold.specs.Settings.{AreValid};
 
 use crate::keeping::Post;
 use crate::radio::read_log;
 use crate::{LogEnd, LogWork, RadioWorker};
-use feed_link::OpenGate;
 use journal_entry::{ENTRY_ROOM, write_entry};
 use memory_links::SureSource;
+use outside_traits::OpenGate;
 use page_cell::{CellParts, FeedPass, PageCell};
 use radio_receiver::{BoxedReceiver, DcfReceiver, Receiver};
 use std::alloc::Global;
@@ -115,7 +115,7 @@ fn run_log<N: HubName, R: Wait>(
 ) -> Option<(LogWork, Journal)>
     requires cell { (parts.cell.table ≡ N.table) × (parts.baton.table ≡ N.table) }
     requires settings { (key_of parts.baton.view ≡ settings.now) × (settings.now ≡ N.settings) }
-    requires lawful { AreLawful settings.now }
+    requires valid { AreValid settings.now }
     requires fresh { parts.baton.view.list ≡ [] }
     requires limit { (limit ≡ N.limit) × (0 < limit) × (limit ≤ 4194304) }
     requires feeds { All (λ f. f.table ≡ N.table) parts.feeds.items }
@@ -143,7 +143,7 @@ fn run_log<N: HubName, R: Wait>(
 
 // One source of a station.
 fn settings_of(kind: SourceKind) -> Settings
-    ensures { AreLawful result }
+    ensures { AreValid result }
 {
     let mut settings = Settings::new(500);
     settings.add(kind);

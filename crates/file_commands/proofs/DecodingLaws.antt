@@ -2,10 +2,10 @@
 use Rattle.std.proofs.Common.{◌≡◌, ℕ, Option, None, Some, Result, Ok, Err, List, [], ◌∷◌, ◌++◌, map, refl, ap, sym, ◌∙◌, subst, inl, inr, append_assoc}
 use Rattle.std.proofs.lemmas.List.{append-nil}
 use Rattle.std.proofs.lemmas.List.Concat.{flat_map-append}
-use Rattle.feed_link.specs.Told.{SourceState, SinkState}
-use Rattle.file_reader.specs.Ends.{HasReadFront}
+use Rattle.outside_traits.specs.States.{SourceState, SinkState}
+use Rattle.file_reader.specs.Ends.{HasReadPrefix}
 use Rattle.journal_entry.specs.declared.entry.Entry.{Entry}
-use Rattle.log_decoder.specs.Decoding.{HasDecoded, DecodesFront, most_of_a_log, radio_log}
+use Rattle.log_decoder.specs.Decoding.{HasDecoded, DecodesPrefix, most_of_a_log, radio_log}
 use Rattle.log_decoder.specs.Due.{due_log, entry_line, entry_of, lines_of_entries}
 use Rattle.log_decoder.specs.declared.decoder.LogDecoder.{LogDecoder}
 use Rattle.log_decoder.proofs.DueLaws.{due_none, lines_grow}
@@ -27,7 +27,7 @@ use Rattle.file_commands.specs.declared.ending.status.Status.{Status}
 use Rattle.file_commands.specs.declared.ending.status.Status.TheVariants.{WriteFault}
 use Rattle.file_commands.specs.declared.ending.subject.Subject.TheVariants.{Feed}
 use Rattle.file_reader.specs.declared.log_end.LogEnd.{LogEnd}
-use Rattle.sink_text.proofs.WritingLaws.{front_of_more}
+use Rattle.sink_text.proofs.WritingLaws.{prefix_of_more}
 
 text_none : (plan : Plan) → ◌≡◌ {A = List ℕ} [] (log_text plan [])
 text_none plan = ap lines_of_entries (sym (due_none 0 plan 0))
@@ -37,11 +37,11 @@ module _ {B : Type 0} (stands : B → History → Type 0) where
   pub decoded_none : (d : LogDecoder B) (plan : Plan) → HasDecoded stands d 0 plan 0 [] → IsDecodedBy stands d plan [] [] None
   decoded_none d plan h = record { decoded = h; text_is = text_none plan; bad_is = refl }
 
-  module _ (d now : LogDecoder B) (plan : Plan) (before front text line : List ℕ) (h : IsDecodedBy stands d plan before text None) where
-    same_text : due_log 0 plan 0 (before ++ front) ≡ due_log 0 plan 0 before → text ++ [] ≡ log_text plan (before ++ front)
+  module _ (d now : LogDecoder B) (plan : Plan) (before prefix text line : List ℕ) (h : IsDecodedBy stands d plan before text None) where
+    same_text : due_log 0 plan 0 (before ++ prefix) ≡ due_log 0 plan 0 before → text ++ [] ≡ log_text plan (before ++ prefix)
     same_text same = append-nil text ∙ h.text_is ∙ sym (ap lines_of_entries same)
 
-    one_more : (entry : Entry) → due_log 0 plan 0 (before ++ front) ≡ due_log 0 plan 0 before ++ entry ∷ [] → text ++ entry_line entry ≡ log_text plan (before ++ front)
+    one_more : (entry : Entry) → due_log 0 plan 0 (before ++ prefix) ≡ due_log 0 plan 0 before ++ entry ∷ [] → text ++ entry_line entry ≡ log_text plan (before ++ prefix)
     one_more entry more =
         ap (λ (t : List ℕ). t ++ entry_line entry) h.text_is
         ∙ ap (λ (t : List ℕ). log_text plan before ++ t) (sym (append-nil (entry_line entry)))
@@ -49,9 +49,9 @@ module _ {B : Type 0} (stands : B → History → Type 0) where
         ∙ sym (ap lines_of_entries more)
 
     -- a beginning of what comes was taken, and what was found in it is given
-    pub decoded_on : (found : Result (Option Entry) BadLine) (gives : Gives) → DecodesFront stands now (radio_log 0 plan 0) before front found → IsFound found gives line →
-        IsDecodedBy stands now plan (before ++ front) (text ++ given gives line) (bad_of gives)
-    decoded_on (Ok None) gives took is = subst (λ (k : Gives). IsDecodedBy stands now plan (before ++ front) (text ++ given k line) (bad_of k)) (sym is)
+    pub decoded_on : (found : Result (Option Entry) BadLine) (gives : Gives) → DecodesPrefix stands now (radio_log 0 plan 0) before prefix found → IsFound found gives line →
+        IsDecodedBy stands now plan (before ++ prefix) (text ++ given gives line) (bad_of gives)
+    decoded_on (Ok None) gives took is = subst (λ (k : Gives). IsDecodedBy stands now plan (before ++ prefix) (text ++ given k line) (bad_of k)) (sym is)
         (record { decoded = took.decoded; text_is = same_text (took.finds.1 ∙ append-nil (due_log 0 plan 0 before)); bad_is = sym took.finds.0 })
     decoded_on (Ok (Some entry)) (Ok None) took is = absurd is
     decoded_on (Ok (Some entry)) (Err bad) took is = absurd is
@@ -60,7 +60,7 @@ module _ {B : Type 0} (stands : B → History → Type 0) where
       text_is = ap (λ (t : List ℕ). text ++ t) is ∙ one_more entry took.finds.1;
       bad_is = sym took.finds.0;
     }
-    decoded_on (Err bad) gives took is = subst (λ (k : Gives). IsDecodedBy stands now plan (before ++ front) (text ++ given k line) (bad_of k)) (sym is)
+    decoded_on (Err bad) gives took is = subst (λ (k : Gives). IsDecodedBy stands now plan (before ++ prefix) (text ++ given k line) (bad_of k)) (sym is)
         (record { decoded = took.decoded; text_is = same_text took.finds.1; bad_is = sym took.finds.0 })
 
   -- the end of a log without a bad line so far
@@ -71,26 +71,26 @@ module _ {B : Type 0} (stands : B → History → Type 0) where
   text_same : (plan : Plan) (bytes more : List ℕ) → pulses more ≡ pulses bytes → log_text plan more ≡ log_text plan bytes
   text_same plan bytes more same = ap (λ (rs : List Reduction). lines_of_entries (map (entry_of 0) (answers_of (record { plan = plan; delay = 0; reductions = rs })))) same
 
-  stays : (plan : Plan) (front behind : List ℕ) (bad : Option ℕ) → bad ≡ bad_line front → (bad ≡ None → behind ≡ []) →
-      (bad_line (front ++ behind) ≡ bad) × (log_text plan (front ++ behind) ≡ log_text plan front)
-  stays plan front behind None is none =
-      let same : front ++ behind ≡ front = ap (λ (b : List ℕ). front ++ b) (none refl) ∙ append-nil front in
+  stays : (plan : Plan) (prefix later : List ℕ) (bad : Option ℕ) → bad ≡ bad_line prefix → (bad ≡ None → later ≡ []) →
+      (bad_line (prefix ++ later) ≡ bad) × (log_text plan (prefix ++ later) ≡ log_text plan prefix)
+  stays plan prefix later None is none =
+      let same : prefix ++ later ≡ prefix = ap (λ (b : List ℕ). prefix ++ b) (none refl) ∙ append-nil prefix in
       (ap bad_line same ∙ sym is, ap (log_text plan) same)
-  stays plan front behind (Some n) is none =
-      let h = bad_stays front behind n (sym is) in
-      (h.0, text_same plan front (front ++ behind) h.1)
+  stays plan prefix later (Some n) is none =
+      let h = bad_stays prefix later n (sym is) in
+      (h.0, text_same plan prefix (prefix ++ later) h.1)
 
   -- the status line after the lines
   pub decodes_after : (plan : Plan) (d : LogDecoder B) (file file_now : SourceState) (out out_mid out_now : SinkState) (end : LogEnd) (result : Status) →
       EndsItself (IsDecodedBy stands d plan) most_of_a_log (flow_of file file_now out out_mid) end →
       Answers (status_of (ending_at (Feed 0) end)) result out_mid out_now (status_line (ending_at (Feed 0) end)) → Decodes plan file file_now out out_now result
   decodes_after plan d file file_now out out_mid out_now end result h answers =
-      let decoded : IsDecodedBy stands d plan h.front h.text h.bad = h.held in
-      let same = stays plan h.front h.behind h.bad decoded.bad_is h.none_behind in
+      let decoded : IsDecodedBy stands d plan h.prefix h.text h.bad = h.held in
+      let same = stays plan h.prefix h.later h.bad decoded.bad_is h.none_later in
       inl (record {
-        bytes = h.front ++ h.behind;
+        bytes = h.prefix ++ h.later;
         due = end;
-        read = subst (λ (b : Option ℕ). ReadsLines end most_of_a_log file file_now (h.front ++ h.behind) b) (sym same.0) h.read;
+        read = subst (λ (b : Option ℕ). ReadsLines end most_of_a_log file file_now (h.prefix ++ h.later) b) (sym same.0) h.read;
         between = out_mid;
         lines = subst (λ (t : List ℕ). WritesAll out out_mid t) (decoded.text_is ∙ sym same.1) h.written;
         written = answers;
@@ -100,18 +100,18 @@ module _ {B : Type 0} (stands : B → History → Type 0) where
 pub decodes_stopped : (plan : Plan) (file file_now : SourceState) (out out_now : SinkState) → EndsStopped (log_says plan) most_of_a_log (flow_of file file_now out out_now) → Decodes plan file file_now out out_now WriteFault
 decodes_stopped plan file file_now out out_now h =
     let s = h.stops in
-    let grows = lines_grow 0 plan 0 (s.earlier ++ s.next) s.behind in
+    let grows = lines_grow 0 plan 0 (s.earlier ++ s.next) s.later in
     inr (record {
       earlier = s.earlier;
-      next = s.next ++ s.behind;
-      read = subst (λ (b : List ℕ). HasReadFront most_of_a_log file file_now b) (sym s.all) h.read;
+      next = s.next ++ s.later;
+      read = subst (λ (b : List ℕ). HasReadPrefix most_of_a_log file file_now b) (sym s.all) h.read;
       near = s.near;
       between = s.between;
       lines = subst (λ (t : List ℕ). WritesAll out s.between t) s.said s.whole;
       more = s.more ++ grows.0;
-      adds = ap (log_text plan) (sym (append_assoc s.earlier s.next s.behind)) ∙ grows.1 ∙ ap (λ (t : List ℕ). t ++ grows.0) (sym s.adds) ∙ ap (λ (t : List ℕ). (t ++ s.more) ++ grows.0) s.said
+      adds = ap (log_text plan) (sym (append_assoc s.earlier s.next s.later)) ∙ grows.1 ∙ ap (λ (t : List ℕ). t ++ grows.0) (sym s.adds) ∙ ap (λ (t : List ℕ). (t ++ s.more) ++ grows.0) s.said
           ∙ append_assoc (log_text plan s.earlier) s.more grows.0;
-      failed = front_of_more s.between out_now s.more (s.more ++ grows.0) (grows.0, refl) s.failed;
+      failed = prefix_of_more s.between out_now s.more (s.more ++ grows.0) (grows.0, refl) s.failed;
       answer = refl;
     })
 

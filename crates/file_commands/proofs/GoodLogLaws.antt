@@ -3,8 +3,8 @@ use Rattle.std.proofs.Common.{◌≡◌, ℕ, Option, Some, None, List, [], ◌+
 use Rattle.std.specs.Prelude.{IsSome}
 use Rattle.std.proofs.lemmas.List.{append-nil, length-append}
 use Rattle.std.proofs.lemmas.Bool.{false≢true}
-use Rattle.feed_link.specs.Faults.{Rose, RoseByOne}
-use Rattle.feed_link.specs.Told.{SourceState, SinkState, Takes, NoneLeft}
+use Rattle.outside_traits.specs.Faults.{Rose, RoseByOne}
+use Rattle.outside_traits.specs.States.{SourceState, SinkState, Takes, NoneLeft}
 use Rattle.pulse_log.proofs.LogLaws.{bad_stays}
 use Rattle.tick_units.specs.Log.{bad_line, bad_at_end, or_unfinished, lines_of}
 use Rattle.tick_units.specs.declared.marks.Plan.{Plan}
@@ -12,7 +12,7 @@ use Rattle.file_commands.specs.Decoding.{Decodes, IsGoodLog, HasGoodLog, RunsDec
 use Rattle.log_decoder.specs.Decoding.{most_of_a_log}
 use Rattle.file_commands.specs.Effects.{Effect}
 use Rattle.file_commands.specs.Endings.{status_of, ending_at}
-use Rattle.file_reader.specs.Ends.{HasReadFront, EndsReading}
+use Rattle.file_reader.specs.Ends.{HasReadPrefix, EndsReading}
 use Rattle.file_reader.specs.declared.reader.FileEnd.{FileEnd}
 use Rattle.file_reader.specs.declared.reader.FileEnd.TheVariants.{TooLong}
 use Rattle.file_commands.specs.Reading.{ReadsLines}
@@ -24,10 +24,10 @@ use Rattle.file_reader.specs.declared.log_end.LogEnd.TheVariants as log
 use Rattle.file_commands.proofs.OpeningLaws.{one_opened, one_failed}
 
 -- the bytes read of a file that reported its bytes are a beginning of them
-pub front_of : (left left_now : Option (List ℕ)) (text bytes : List ℕ) → left ≡ Some text → IsSome left_now → Takes left left_now bytes → (rest : List ℕ) × (left_now ≡ Some rest) × (text ≡ bytes ++ rest)
-front_of left None text bytes told tells takes = absurd (false≢true tells)
-front_of None (Some rest) text bytes told tells takes = absurd takes
-front_of (Some left) (Some rest) text bytes told tells takes = let e : left ≡ text = cc in (rest, refl, sym e ∙ takes)
+pub prefix_of : (left left_now : Option (List ℕ)) (text bytes : List ℕ) → left ≡ Some text → IsSome left_now → Takes left left_now bytes → (rest : List ℕ) × (left_now ≡ Some rest) × (text ≡ bytes ++ rest)
+prefix_of left None text bytes reported reports takes = absurd (false≢true reports)
+prefix_of None (Some rest) text bytes reported reports takes = absurd takes
+prefix_of (Some left) (Some rest) text bytes reported reports takes = let e : left ≡ text = cc in (rest, refl, sym e ∙ takes)
 
 pub none_left : (left_now : Option (List ℕ)) (rest : List ℕ) → left_now ≡ Some rest → NoneLeft left_now → rest ≡ []
 none_left left_now rest e h = subst NoneLeft e h
@@ -40,8 +40,8 @@ good_line bytes None is e = is
 good_line bytes (Some n) is e = cc
 
 -- a beginning of a log without a bad line has none
-no_bad_front : (bytes extra rest text : List ℕ) (n : ℕ) → text ≡ (bytes ++ extra) ++ rest → bad_at_end text ≡ None → bad_line bytes ≡ Some n → ⊥
-no_bad_front bytes extra rest text n e good is =
+no_bad_prefix : (bytes extra rest text : List ℕ) (n : ℕ) → text ≡ (bytes ++ extra) ++ rest → bad_at_end text ≡ None → bad_line bytes ≡ Some n → ⊥
+no_bad_prefix bytes extra rest text n e good is =
     let stays = bad_stays bytes (extra ++ rest) n is in
     let whole : bad_line text ≡ Some n = ap bad_line (e ∙ append_assoc bytes extra rest) ∙ stays.0 in
     let wrong : ◌≡◌ {A = Option ℕ} None (Some n) = sym (good_line text (bad_line text) refl good) ∙ whole in
@@ -54,29 +54,29 @@ whole_text bytes extra rest text e none nothing =
 -- such a log is read to its end
 module _ (opened back : SourceState) (good : IsGoodLog opened back) (bytes : List ℕ) where
   -- a reading that ended so took a beginning of the text
-  pub front_by : (end : FileEnd) (read : EndsReading end most_of_a_log opened back bytes) → (rest : List ℕ) × (back.left ≡ Some rest) × (good.text ≡ (bytes ++ read.extra) ++ rest)
-  front_by end read = front_of opened.left back.left good.text (bytes ++ read.extra) good.told good.tells read.taken
+  pub prefix_by : (end : FileEnd) (read : EndsReading end most_of_a_log opened back bytes) → (rest : List ℕ) × (back.left ≡ Some rest) × (good.text ≡ (bytes ++ read.extra) ++ rest)
+  prefix_by end read = prefix_of opened.left back.left good.text (bytes ++ read.extra) good.reported good.reports read.taken
 
-  front_so_far : HasReadFront most_of_a_log opened back bytes → (rest : List ℕ) × (back.left ≡ Some rest) × (good.text ≡ (bytes ++ []) ++ rest)
-  front_so_far read =
-      let front = front_of opened.left back.left good.text bytes good.told good.tells read.taken in
-      (front.0, front.1, front.2 ∙ ap (λ (b : List ℕ). b ++ front.0) (sym (append-nil bytes)))
+  prefix_so_far : HasReadPrefix most_of_a_log opened back bytes → (rest : List ℕ) × (back.left ≡ Some rest) × (good.text ≡ (bytes ++ []) ++ rest)
+  prefix_so_far read =
+      let prefix = prefix_of opened.left back.left good.text bytes good.reported good.reports read.taken in
+      (prefix.0, prefix.1, prefix.2 ∙ ap (λ (b : List ℕ). b ++ prefix.0) (sym (append-nil bytes)))
 
   pub good_reach : (end : LogEnd) → ReadsLines end most_of_a_log opened back bytes (bad_line bytes) → end ≡ log.Whole
   good_reach log.Whole h = refl
   good_reach log.Fault h = absurd (good.no_fault (rose_by_one opened.faults back.faults h.0.cause.1))
   good_reach log.Long h =
-      let front = front_by TooLong h.0 in
+      let prefix = prefix_by TooLong h.0 in
       let size = h.0.cause.0 in
       let one = h.0.cause.1 in
       let most = good.most in
-      let len = ap length front.2 in
-      absurd (omega (arith, length-append (bytes ++ h.0.extra) front.0, length-append bytes h.0.extra))
+      let len = ap length prefix.2 in
+      absurd (omega (arith, length-append (bytes ++ h.0.extra) prefix.0, length-append bytes h.0.extra))
   good_reach (log.BadLine line) h =
-      let front = front_so_far h.0 in
+      let prefix = prefix_so_far h.0 in
       elim h.1 [
-        | inl bad ↦ absurd (no_bad_front bytes [] front.0 good.text line front.2 good.lines bad)
-        | inr tail ↦ (let whole = whole_text bytes [] front.0 good.text front.2 refl (none_left back.left front.0 front.1 tail.0) in
+        | inl bad ↦ absurd (no_bad_prefix bytes [] prefix.0 good.text line prefix.2 good.lines bad)
+        | inr tail ↦ (let whole = whole_text bytes [] prefix.0 good.text prefix.2 refl (none_left back.left prefix.0 prefix.1 tail.0) in
             let wrong : ◌≡◌ {A = Option ℕ} None (Some line) = sym good.lines ∙ ap bad_at_end whole ∙ tail.2 in
             cc)
       ]

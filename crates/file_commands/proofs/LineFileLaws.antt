@@ -2,17 +2,17 @@
 use Rattle.std.proofs.Common.{◌≡◌, ℕ, ◌<◌, false, Option, None, Some, List, [], ◌∷◌, ◌++◌, length, refl, ap, sym, ◌∙◌, subst, inl, inr, arith}
 use Rattle.std.proofs.lemmas.List.{append-nil, length-append}
 use Rattle.clock_page.specs.Page.{PageFields}
-use Rattle.feed_link.specs.Faults.{Rose, RoseByOne}
-use Rattle.feed_link.specs.Told.{SourceState, SinkState}
-use Rattle.feed_link.specs.Openings.{OutsideState, MakesOpenings}
-use Rattle.feed_link.specs.Openings.Wanted.{LogOf}
-use Rattle.feed_link.proofs.OpeningLaws.{opens_front, opens_more}
-use Rattle.file_reader.specs.Ends.{EndsReading, HasReadFront}
+use Rattle.outside_traits.specs.Faults.{Rose, RoseByOne}
+use Rattle.outside_traits.specs.States.{SourceState, SinkState}
+use Rattle.outside_traits.specs.Openings.{OutsideState, MakesOpenings}
+use Rattle.outside_traits.specs.Openings.Wanted.{LogOf}
+use Rattle.outside_traits.proofs.OpeningLaws.{opens_prefix, opens_more}
+use Rattle.file_reader.specs.Ends.{EndsReading, HasReadPrefix}
 use Rattle.file_reader.specs.declared.reader.FileEnd.{FileEnd}
 use Rattle.file_reader.specs.declared.reader.FileEnd.TheVariants.{Whole, TooLong}
 use Rattle.line_cutter.proofs.ItemLaws.{bad_stays, one_reading}
 use Rattle.station_reader.specs.Faults.{Says}
-use Rattle.station_config.specs.Station.{StationFields}
+use Rattle.station_values.specs.Station.{StationFields}
 use Rattle.station_reader.specs.Values.{station_of}
 use Rattle.tick_units.specs.Log.{lines_of, has_tail, or_unfinished}
 use Rattle.file_commands.specs.declared.ending.Ending.{Ending}
@@ -35,15 +35,15 @@ use Rattle.file_commands.specs.Taking.{EndsItself, EndsStopped, flow_of}
 use Rattle.file_commands.specs.Text.{page_text}
 use Rattle.sink_text.specs.Writing.{WritesAll}
 use Rattle.file_commands.specs.Writing.{Answers}
-use Rattle.file_commands.proofs.GoodLogLaws.{front_of, none_left, whole_text, rose_by_one}
+use Rattle.file_commands.proofs.GoodLogLaws.{prefix_of, none_left, whole_text, rose_by_one}
 use Rattle.file_commands.proofs.OpeningLaws.{two_failed_first, two_only_first, two_failed_next, two_opened}
 
 -- ---- the end of a run
 
 -- bytes after a bad line change neither that line nor the items before it
-items_stay : (f : LineFile) (items : List f.Item) (front behind : List ℕ) (bad : Option ℕ) → HasItemsOf f front items bad → (bad ≡ None → behind ≡ []) → HasItemsOf f (front ++ behind) items bad
-items_stay f items front behind None h none = subst (λ (b : List ℕ). HasItemsOf f b items None) (sym (ap (λ (b : List ℕ). front ++ b) (none refl) ∙ append-nil front)) h
-items_stay f items front behind (Some n) h none = bad_stays f.says f.too_long items n front behind h
+items_stay : (f : LineFile) (items : List f.Item) (prefix later : List ℕ) (bad : Option ℕ) → HasItemsOf f prefix items bad → (bad ≡ None → later ≡ []) → HasItemsOf f (prefix ++ later) items bad
+items_stay f items prefix later None h none = subst (λ (b : List ℕ). HasItemsOf f b items None) (sym (ap (λ (b : List ℕ). prefix ++ b) (none refl) ∙ append-nil prefix)) h
+items_stay f items prefix later (Some n) h none = bad_stays f.says f.too_long items n prefix later h
 
 module _ {T : Type 0} (way : LineWay T) (lines : LineTaker T) where
   pub runs_after : (file file_now : SourceState) (out out_mid out_now : SinkState) (end : LogEnd) (result : Status) (page : PageFields) (due : Ending) →
@@ -51,12 +51,12 @@ module _ {T : Type 0} (way : LineWay T) (lines : LineTaker T) where
       ((items : List way.file.Item) (bad : Option ℕ) → way.stands lines.taker items bad → page ≡ way.file.page items) →
       ((items : List way.file.Item) (bad : Option ℕ) → way.stands lines.taker items bad → due ≡ way.file.ending end items) → Answers (status_of due) result out_mid out_now (page_text page ++ status_line due) → RunsThrough way.file file file_now out out_now result
   runs_after file file_now out out_mid out_now end result page due h page_is due_is answers =
-      let p : IsTakenBy way lines h.front h.text h.bad = h.held in
+      let p : IsTakenBy way lines h.prefix h.text h.bad = h.held in
       inl (record {
-        bytes = h.front ++ h.behind;
+        bytes = h.prefix ++ h.later;
         items = p.items;
         bad = h.bad;
-        said = items_stay way.file p.items h.front h.behind h.bad p.said h.none_behind;
+        said = items_stay way.file p.items h.prefix h.later h.bad p.said h.none_later;
         end = end;
         read = h.read;
         due = due;
@@ -78,8 +78,8 @@ runs_stopped f file file_now out out_now h =
     inr (record {
       earlier = s.earlier;
       next = s.next;
-      behind = s.behind;
-      read = subst (λ (b : List ℕ). HasReadFront f.most file file_now b) (sym s.all) h.read;
+      later = s.later;
+      read = subst (λ (b : List ℕ). HasReadPrefix f.most file file_now b) (sym s.all) h.read;
       near = s.near;
       items = s.said.0;
       said = s.said.1;
@@ -99,7 +99,7 @@ module _ (what : Subject) (file_of : StationFields → LineFile) (name file_name
   -- the station could not be opened
   pub station_failed : MakesOpenings (LogOf name ∷ []) outside outside_now [] (Some (LogOf name)) →
       Answers (status_of (NotOpened Station)) result out out_now (status_line (NotOpened Station)) → RunsAgainst what file_of name file_name (effect_of outside outside_now out out_now result)
-  station_failed opens answers = inl (record { opens = opens_front (LogOf name ∷ []) (LogOf file_name ∷ []) outside outside_now [] (Some (LogOf name)) opens; written = answers })
+  station_failed opens answers = inl (record { opens = opens_prefix (LogOf name ∷ []) (LogOf file_name ∷ []) outside outside_now [] (Some (LogOf name)) opens; written = answers })
 
   -- the station can't be used
   pub ends_at : (end : FileEnd) (bytes : List ℕ) (due : Obstacle) → OpensStation name outside outside_now end bytes → IsObstacle end bytes due →
@@ -107,7 +107,7 @@ module _ (what : Subject) (file_of : StationFields → LineFile) (name file_name
   ends_at end bytes due h cause answers = inr (inl (record {
     opened = h.opened;
     back = h.back;
-    opens = opens_front (LogOf name ∷ []) (LogOf file_name ∷ []) outside outside_now _ None h.opens;
+    opens = opens_prefix (LogOf name ∷ []) (LogOf file_name ∷ []) outside outside_now _ None h.opens;
     end = end;
     bytes = bytes;
     read = h.read;
@@ -165,8 +165,8 @@ module _ (f : LineFile) (readable : IsReadable f) (opened back : SourceState) (g
   same_whole same = readable.ends bytes items good.items bad said (subst (λ (b : List ℕ). HasItemsOf f b good.items None) same good.said)
 
   -- a beginning of it has no bad line
-  no_bad_front : (n : ℕ) (rest : List ℕ) → good.text ≡ bytes ++ rest → bad ≡ Some n → ⊥
-  no_bad_front n rest e is =
+  no_bad_prefix : (n : ℕ) (rest : List ℕ) → good.text ≡ bytes ++ rest → bad ≡ Some n → ⊥
+  no_bad_prefix n rest e is =
       let longer = bad_stays f.says f.too_long items n bytes rest (subst (λ (b : Option ℕ). HasItemsOf f bytes items b) is said) in
       let all = subst (λ (b : List ℕ). HasItemsOf f b items (Some n)) (sym e) longer in
       let wrong = (readable.ends good.text items good.items (Some n) all good.said).1 in
@@ -178,26 +178,26 @@ module _ (f : LineFile) (readable : IsReadable f) (opened back : SourceState) (g
       cc
 
   -- a reading that ended so took a beginning of the text
-  front_by : (end : FileEnd) (read : EndsReading end f.most opened back bytes) → (rest : List ℕ) × (back.left ≡ Some rest) × (good.text ≡ (bytes ++ read.extra) ++ rest)
-  front_by end read = front_of opened.left back.left good.text (bytes ++ read.extra) good.told good.tells read.taken
+  prefix_by : (end : FileEnd) (read : EndsReading end f.most opened back bytes) → (rest : List ℕ) × (back.left ≡ Some rest) × (good.text ≡ (bytes ++ read.extra) ++ rest)
+  prefix_by end read = prefix_of opened.left back.left good.text (bytes ++ read.extra) good.reported good.reports read.taken
 
   read_whole : (end : LogEnd) → ReadsLines end f.most opened back bytes bad → (end ≡ log.Whole) × (f.ending log.Whole items ≡ f.ending log.Whole good.items)
   read_whole log.Whole h =
-      let front = front_by Whole h.0 in
-      (refl, (same_whole (whole_text bytes h.0.extra front.0 good.text front.2 h.0.cause.0 (none_left back.left front.0 front.1 h.0.cause.1))).0 log.Whole)
+      let prefix = prefix_by Whole h.0 in
+      (refl, (same_whole (whole_text bytes h.0.extra prefix.0 good.text prefix.2 h.0.cause.0 (none_left back.left prefix.0 prefix.1 h.0.cause.1))).0 log.Whole)
   read_whole log.Fault h = absurd (good.no_fault (rose_by_one opened.faults back.faults h.0.cause.1))
   read_whole log.Long h =
-      let front = front_by TooLong h.0 in
+      let prefix = prefix_by TooLong h.0 in
       let size = h.0.cause.0 in
       let one = h.0.cause.1 in
       let most = good.most in
-      let len = ap length front.2 in
-      absurd (omega (arith, length-append (bytes ++ h.0.extra) front.0, length-append bytes h.0.extra))
+      let len = ap length prefix.2 in
+      absurd (omega (arith, length-append (bytes ++ h.0.extra) prefix.0, length-append bytes h.0.extra))
   read_whole (log.BadLine n) h =
-      let front = front_of opened.left back.left good.text bytes good.told good.tells h.0.taken in
+      let prefix = prefix_of opened.left back.left good.text bytes good.reported good.reports h.0.taken in
       elim h.1 [
-        | inl is ↦ absurd (no_bad_front n front.0 front.2 is)
-        | inr tail ↦ absurd (no_bad_end n (front.2 ∙ ap (λ (r : List ℕ). bytes ++ r) (none_left back.left front.0 front.1 tail.0) ∙ append-nil bytes) tail.1 tail.2)
+        | inl is ↦ absurd (no_bad_prefix n prefix.0 prefix.2 is)
+        | inr tail ↦ absurd (no_bad_end n (prefix.2 ∙ ap (λ (r : List ℕ). bytes ++ r) (none_left back.left prefix.0 prefix.1 tail.0) ∙ append-nil bytes) tail.1 tail.2)
       ]
 
 -- it is Done where no write fails
@@ -222,8 +222,8 @@ one_station bytes a b h k =
 -- the station that was read is that of the file
 pub read_station : (of said : StationFields) (opened back : SourceState) → IsStation of opened back → HasStation opened back said → said ≡ of
 read_station of said opened back h is =
-    let front = front_of opened.left back.left h.text (is.bytes ++ is.read.extra) h.told h.tells is.read.taken in
-    let same = whole_text is.bytes is.read.extra front.0 h.text front.2 is.read.cause.0 (none_left back.left front.0 front.1 is.read.cause.1) in
+    let prefix = prefix_of opened.left back.left h.text (is.bytes ++ is.read.extra) h.reported h.reports is.read.taken in
+    let same = whole_text is.bytes is.read.extra prefix.0 h.text prefix.2 is.read.cause.0 (none_left back.left prefix.0 prefix.1 is.read.cause.1) in
     one_station is.bytes said of is.says (subst (λ (b : List ℕ). Says b of) same h.says)
 
 module _ (what : Subject) (file_of : StationFields → LineFile) (readable : (of : StationFields) → IsReadable (file_of of)) (name file_name : List ℕ) (effect : Effect)

@@ -5,7 +5,7 @@ use Rattle.std.proofs.lemmas.Bool.{eqb-true}
 use Rattle.std.proofs.lemmas.List.FromFn.{length-enumerate_from}
 use Rattle.std.specs.List.{enumerate_from, flat_map}
 use Rattle.clock_page.specs.Page.{PageFields}
-use Rattle.journal_entry.specs.Lawful.{IsLawful}
+use Rattle.journal_entry.specs.Valid.{IsValid}
 use Rattle.journal_entry.specs.Lines.{entry_of, form_of}
 use Rattle.journal_entry.specs.declared.line.Form.{Form}
 use Rattle.system_fold.specs.KeptFold.{FoldFields, StandsForJournal}
@@ -16,14 +16,14 @@ use Rattle.journal_entry.specs.declared.numbered.Numbered.{Numbered as NumberedE
 use Rattle.journal_entry.specs.declared.line.JournalLine.{JournalLine}
 use Rattle.journal_entry.proofs.LengthLaws.{short_text}
 use Rattle.journal_entry.proofs.SameLaws.{same_line}
-use Rattle.system_fold.specs.Numbered.{numbered, numbered_after, numbered_behind}
-use Rattle.station_config.specs.Station.{StationFields, settings_of}
+use Rattle.system_fold.specs.Numbered.{numbered, numbered_after, numbered_next}
+use Rattle.station_values.specs.Station.{StationFields, settings_of}
 use Rattle.system_fold.specs.Settings.{SettingsFields}
 use Rattle.file_commands.specs.JournalTaking.{journal_way, journal_taker}
 use Rattle.file_commands.specs.LineTaking.{LineTexts, TakesLine}
 use Rattle.file_commands.specs.declared.migrate.mover.JournalMover.{JournalMover}
 use Rattle.file_commands.specs.Moving.{HasMoved, IsFormOf, IsMoving, MoverFields, MovesLine, MovesText}
-use Rattle.file_commands.specs.Migrating.{HasFormOf, TellsNumber, entries_of, journal_line_limit, journal_text, most_lines, says_line}
+use Rattle.file_commands.specs.Migrating.{HasFormOf, StatesNumber, entries_of, journal_line_limit, journal_text, most_lines, says_line}
 
 abbrev length_limit : Bool → ℕ
 length_limit same = cond same 1 300
@@ -38,8 +38,8 @@ limit_by n false e less = refl
 pub limit_within : (n : ℕ) → n < most_lines → journal_line_limit n ≡ 300
 limit_within n less = limit_by n (nat_eq n most_lines) refl less
 
-pub limit_behind : (n : ℕ) → n ≡ most_lines → journal_line_limit n ≡ 1
-limit_behind n e = ap journal_line_limit e
+pub limit_after : (n : ℕ) → n ≡ most_lines → journal_line_limit n ≡ 1
+limit_after n e = ap journal_line_limit e
 
 pub some_room : (n : ℕ) → 0 < journal_line_limit n
 some_room n = room_by (nat_eq n most_lines)
@@ -52,8 +52,8 @@ pub short_line : (settings : SettingsFields) (before : List JournalLine) (text :
 short_line settings before text x h = (let short = short_text text x h.0 in let limit = limit_within (length before) h.1.room in omega arith)
 
 -- after as many lines as there may be none says anything
-pub none_behind : (of : StationFields) (before : List JournalLine) (text : List ℕ) (x : JournalLine) → length before ≡ most_lines → says_line (settings_of of) before text x → ⊥
-none_behind of before text x full h = (let room = h.1.room in absurd (omega arith))
+pub none_later : (of : StationFields) (before : List JournalLine) (text : List ℕ) (x : JournalLine) → length before ≡ most_lines → says_line (settings_of of) before text x → ⊥
+none_later of before text x full h = (let room = h.1.room in absurd (omega arith))
 
 -- what was moved stays so where a bad line is met
 pub moved_ends : (of : StationFields) (m : MoverFields) (lines : List JournalLine) (n : ℕ) → HasMoved m (settings_of of) lines None → HasMoved m (settings_of of) lines (Some n)
@@ -64,11 +64,11 @@ moved_ends of m lines n h = record {
 
 -- one line more of a journal in the second form
 numbered_push : (settings : SettingsFields) (before entries : List Entry) (e : Entry) →
-    numbered_after settings before (entries ++ e ∷ []) ≡ numbered_after settings before entries ++ numbered_behind settings (before ++ entries) e ∷ []
-numbered_push settings before [] e = ap (λ (b : List Entry). numbered_behind settings b e ∷ []) (sym (append-nil before))
+    numbered_after settings before (entries ++ e ∷ []) ≡ numbered_after settings before entries ++ numbered_next settings (before ++ entries) e ∷ []
+numbered_push settings before [] e = ap (λ (b : List Entry). numbered_next settings b e ∷ []) (sym (append-nil before))
 numbered_push settings before (x ∷ entries) e =
-    ap (λ (ns : List NumberedEntry). numbered_behind settings before x ∷ ns) (numbered_push settings (before ++ x ∷ []) entries e
-    ∙ ap (λ (b : List Entry). numbered_after settings (before ++ x ∷ []) entries ++ numbered_behind settings b e ∷ []) (append_assoc before (x ∷ []) entries))
+    ap (λ (ns : List NumberedEntry). numbered_next settings before x ∷ ns) (numbered_push settings (before ++ x ∷ []) entries e
+    ∙ ap (λ (b : List Entry). numbered_after settings (before ++ x ∷ []) entries ++ numbered_next settings b e ∷ []) (append_assoc before (x ∷ []) entries))
 
 lines_push : (ns : List NumberedEntry) (n : NumberedEntry) →
     flat_map (λ n. numbered_text n ++ codes "\n") (ns ++ n ∷ []) ≡ flat_map (λ n. numbered_text n ++ codes "\n") ns ++ (numbered_text n ++ codes "\n")
@@ -76,11 +76,11 @@ lines_push [] n = append-nil (numbered_text n ++ codes "\n")
 lines_push (m ∷ ns) n = ap (λ (t : List ℕ). (numbered_text m ++ codes "\n") ++ t) (lines_push ns n) ∙ sym (append_assoc (numbered_text m ++ codes "\n") (flat_map (λ n. numbered_text n ++ codes "\n") ns) (numbered_text n ++ codes "\n"))
 
 journal_more : (settings : SettingsFields) (lines : List JournalLine) (line : JournalLine) →
-    journal_text settings (entries_of (lines ++ line ∷ [])) ≡ journal_text settings (entries_of lines) ++ (numbered_text (numbered_behind settings (entries_of lines) (entry_of line)) ++ codes "\n")
+    journal_text settings (entries_of (lines ++ line ∷ [])) ≡ journal_text settings (entries_of lines) ++ (numbered_text (numbered_next settings (entries_of lines) (entry_of line)) ++ codes "\n")
 journal_more settings lines line =
     ap (journal_text settings) (map-append entry_of lines (line ∷ []))
     ∙ ap (λ (ns : List NumberedEntry). flat_map (λ n. numbered_text n ++ codes "\n") ns) (numbered_push settings [] (entries_of lines) (entry_of line))
-    ∙ lines_push (numbered settings (entries_of lines)) (numbered_behind settings (entries_of lines) (entry_of line))
+    ∙ lines_push (numbered settings (entries_of lines)) (numbered_next settings (entries_of lines) (entry_of line))
 
 -- a text that was moved is the next line
 pub moved_line : (of : StationFields) (count : ℕ) (m : JournalMover) (before : List JournalLine) (line : LineTexts) (size : ℕ) → m.lines ≡ count + 1 →
@@ -105,28 +105,28 @@ feeds_count fold sources h = ap length h.stands.feeds ∙ length-map (enumerate_
 
 -- the line in the second form is that of its place
 pub number_is : (settings : SettingsFields) (before : List JournalLine) (line : JournalLine) (number : ℕ) (e : Entry) (page : PageFields) (n : NumberedEntry) → number ≡ length before + 1 → e ≡ entry_of line →
-    page ≡ page_of settings (entries_of before ++ e ∷ []) → n ≡ record { length = number; rate = page.rate; entry = e } → n ≡ numbered_behind settings (entries_of before) (entry_of line)
+    page ≡ page_of settings (entries_of before ++ e ∷ []) → n ≡ record { length = number; rate = page.rate; entry = e } → n ≡ numbered_next settings (entries_of before) (entry_of line)
 number_is settings before line number e page n count entry_is page_is is =
     let length_is : number ≡ length (entries_of before) + 1 = count ∙ ap (λ k. k + 1) (sym (length-map before entry_of)) in
     let rate_is : page.rate ≡ (page_of settings (entries_of before ++ entry_of line ∷ [])).rate = ap (λ (p : PageFields). p.rate) page_is ∙ ap (λ (x : Entry). (page_of settings (entries_of before ++ x ∷ [])).rate) entry_is in
     is ∙ (λ i. record { length = length_is i; rate = rate_is i; entry = entry_is i })
 
 -- a line that names another place
-pub refuses_place : (settings : SettingsFields) (before : List JournalLine) (line : JournalLine) (number : ℕ) (m now : MoverFields) (n : NumberedEntry) (told : Bool) → HasMoved m settings before None → now.page ≡ m.page →
-    n ≡ numbered_behind settings (entries_of before) (entry_of line) → (TellsNumber line n → told ≡ true) → told ≡ false → MovesLine now settings before line number None
-refuses_place settings before line number m now n told h same is tells not = (
-  λ may. (let yes = tells (subst (TellsNumber line) (sym is) may.place) in let wrong : true ≡ false = sym yes ∙ not in cc),
+pub refuses_place : (settings : SettingsFields) (before : List JournalLine) (line : JournalLine) (number : ℕ) (m now : MoverFields) (n : NumberedEntry) (reported : Bool) → HasMoved m settings before None → now.page ≡ m.page →
+    n ≡ numbered_next settings (entries_of before) (entry_of line) → (StatesNumber line n → reported ≡ true) → reported ≡ false → MovesLine now settings before line number None
+refuses_place settings before line number m now n reported h same is reports not = (
+  λ may. (let yes = reports (subst (StatesNumber line) (sym is) may.place) in let wrong : true ≡ false = sym yes ∙ not in cc),
   record { page = same ∙ h.page; going = λ none. absurd (let e : ◌≡◌ {A = Option ℕ} (Some number) None = none in cc) },
 )
 
 -- a line that is moved
 pub moves_on : (settings : SettingsFields) (before : List JournalLine) (line : JournalLine) (number : ℕ) (now : MoverFields) (e : Entry) (n : NumberedEntry) → length before < 4194304 →
-    HasFormOf before line → IsLawful (length settings.sources) (entry_of line) → TellsNumber line n → n ≡ numbered_behind settings (entries_of before) (entry_of line) → e ≡ entry_of line →
+    HasFormOf before line → IsValid (length settings.sources) (entry_of line) → StatesNumber line n → n ≡ numbered_next settings (entries_of before) (entry_of line) → e ≡ entry_of line →
     now.page ≡ page_of settings (entries_of before ++ e ∷ []) → StandsForJournal now.fold settings (entries_of before ++ e ∷ []) → now.form ≡ Some (form_of line) → now.sources ≡ length settings.sources →
     MovesLine now settings before line number (Some n)
-moves_on settings before line number now e n room form lawful tells is entry_is page fold form_is sources =
+moves_on settings before line number now e n room form valid reports is entry_is page fold form_is sources =
     let entries : entries_of before ++ e ∷ [] ≡ entries_of (before ++ line ∷ []) = ap (λ (x : Entry). entries_of before ++ x ∷ []) entry_is ∙ sym (map-append entry_of before (line ∷ [])) in (
-      record { room = room; form = form; lawful = lawful; place = subst (TellsNumber line) is tells },
+      record { room = room; form = form; valid = valid; place = subst (StatesNumber line) is reports },
       record {
         page = page ∙ ap (page_of settings) entries;
         going = λ none. record {

@@ -2,19 +2,19 @@
 use Rattle.std.proofs.Common.{◌≡◌, Option, Some, None, List, [], ◌∷◌, ◌++◌, map, ap, sym, ◌∙◌}
 use Rattle.std.specs.Prelude.{ℕ}
 use Rattle.std.proofs.lemmas.List.{append_cancel_left}
-use Rattle.feed_link.specs.Told.{SourceState, Adds}
-use Rattle.feed_link.specs.Openings.{Opening, OutsideState, State, Wanted, MakesOpenings, failed, log_visit, visited}
-use Rattle.feed_link.specs.Openings.State.{OfLog}
-use Rattle.feed_link.specs.Openings.Wanted.{LogOf}
+use Rattle.outside_traits.specs.States.{SourceState, Adds}
+use Rattle.outside_traits.specs.Openings.{Opening, OutsideState, State, Wanted, MakesOpenings, failed, log_visit, visited}
+use Rattle.outside_traits.specs.Openings.State.{OfLog}
+use Rattle.outside_traits.specs.Openings.Wanted.{LogOf}
 
 -- what was added is what is reported after those that were there
-pub same_more : (was now : Option (List Opening)) (before more told : List Opening) → Adds was now more → was ≡ Some before → now ≡ Some (before ++ told) → more ≡ told
-same_more was None before more told adds were are = cc
-same_more None (Some now) before more told adds were are = absurd adds
-same_more (Some was) (Some now) before more told adds were are =
+pub same_more : (was now : Option (List Opening)) (before more reported : List Opening) → Adds was now more → was ≡ Some before → now ≡ Some (before ++ reported) → more ≡ reported
+same_more was None before more reported adds were are = cc
+same_more None (Some now) before more reported adds were are = absurd adds
+same_more (Some was) (Some now) before more reported adds were are =
     let one : was ≡ before = cc in
-    let two : now ≡ before ++ told = cc in
-    append_cancel_left before more told (ap (λ (b : List Opening). b ++ more) (sym one) ∙ sym adds ∙ two)
+    let two : now ≡ before ++ reported = cc in
+    append_cancel_left before more reported (ap (λ (b : List Opening). b ++ more) (sym one) ∙ sym adds ∙ two)
 
 log_states : (a b : SourceState) → ◌≡◌ {A = Option State} (Some (OfLog a)) (Some (OfLog b)) → a ≡ b
 log_states a b e = cc
@@ -22,11 +22,11 @@ log_states a b e = cc
 unopened : (state : State) → ◌≡◌ {A = Option State} None (Some state) → ⊥
 unopened state e = cc
 
-pub first_of : (a b : Opening) (front back : List Opening) → a ∷ front ≡ b ∷ back → a ≡ b
-first_of a b front back e = cc
+pub first_of : (a b : Opening) (prefix back : List Opening) → a ∷ prefix ≡ b ∷ back → a ≡ b
+first_of a b prefix back e = cc
 
-pub rest_of : (a b : Opening) (front back : List Opening) → a ∷ front ≡ b ∷ back → front ≡ back
-rest_of a b front back e = cc
+pub rest_of : (a b : Opening) (prefix back : List Opening) → a ∷ prefix ≡ b ∷ back → prefix ≡ back
+rest_of a b prefix back e = cc
 
 -- openings that are equal reported the same
 pub same_states : (name : List ℕ) (a b c d : SourceState) → visited (log_visit name a b) ≡ visited (log_visit name c d) → (a ≡ c) × (b ≡ d)

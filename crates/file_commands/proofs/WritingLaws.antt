@@ -1,19 +1,19 @@
 -- An ending's text after another.
 use Rattle.std.proofs.Common.{ℕ, List, ◌++◌, inl, inr, refl}
-use Rattle.feed_link.specs.Told.{SinkState}
+use Rattle.outside_traits.specs.States.{SinkState}
 use Rattle.file_commands.specs.Writing.{Answers}
 use Rattle.file_commands.specs.declared.ending.status.Status.{Status}
 use Rattle.file_commands.specs.declared.ending.status.Status.TheVariants.{WriteFault}
-use Rattle.sink_text.specs.Writing.{WritesAll, WritesFront}
-use Rattle.sink_text.proofs.WritingLaws.{front_of_both, writes_front, writes_more}
+use Rattle.sink_text.specs.Writing.{WritesAll, WritesPrefix}
+use Rattle.sink_text.proofs.WritingLaws.{prefix_of_both, writes_prefix, writes_more}
 
 -- a text, and then the status line
 pub answers_more : (status result : Status) (a b c : SinkState) (x y : List ℕ) → WritesAll a b x → Answers status result b c y → Answers status result a c (x ++ y)
 answers_more status result a b c x y h k = elim k [
   | inl all ↦ inl (all.0, writes_more a b c x y h all.1)
-  | inr failed ↦ inr (failed.0, writes_front a b c x y h failed.1)
+  | inr failed ↦ inr (failed.0, writes_prefix a b c x y h failed.1)
 ]
 
 -- a write failed in the first of two texts
-pub answers_front : (status : Status) (a b : SinkState) (x y : List ℕ) → WritesFront a b x → Answers status WriteFault a b (x ++ y)
-answers_front status a b x y h = inr (refl, front_of_both a b x y h)
+pub answers_prefix : (status : Status) (a b : SinkState) (x y : List ℕ) → WritesPrefix a b x → Answers status WriteFault a b (x ++ y)
+answers_prefix status a b x y h = inr (refl, prefix_of_both a b x y h)

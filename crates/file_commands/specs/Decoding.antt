@@ -1,11 +1,11 @@
 -- The command `decode`: what it opens, which bytes of the log it reads, why the reading ends, and what it writes. All of it is this
 -- project's own.
 use Rattle.std.specs.Prelude.{◌≡◌, ℕ, ◌⊎◌, ◌≤◌, IsSome, Some, None, List, [], ◌++◌, ◌∷◌, length, map}
-use Rattle.feed_link.specs.Faults.{Rose}
-use Rattle.feed_link.specs.Told.{SourceState, SinkState}
-use Rattle.feed_link.specs.Openings.{Opening, OutsideState, Wanted, MakesOpenings, log_visit, visited}
-use Rattle.feed_link.specs.Openings.Wanted.{LogOf}
-use Rattle.file_reader.specs.Ends.{HasReadFront}
+use Rattle.outside_traits.specs.Faults.{Rose}
+use Rattle.outside_traits.specs.States.{SourceState, SinkState}
+use Rattle.outside_traits.specs.Openings.{Opening, OutsideState, Wanted, MakesOpenings, log_visit, visited}
+use Rattle.outside_traits.specs.Openings.Wanted.{LogOf}
+use Rattle.file_reader.specs.Ends.{HasReadPrefix}
 use Rattle.tick_units.specs.declared.marks.Plan.{Plan}
 use Rattle.tick_units.specs.Log.{bad_line, bad_at_end}
 use Rattle.file_commands.specs.Effects.{Effect}
@@ -13,7 +13,7 @@ use Rattle.file_commands.specs.Endings.{status_of, status_line, ending_at}
 use Rattle.file_commands.specs.Opening.{CannotOpen}
 use Rattle.file_commands.specs.Reading.{ReadsLines}
 use Rattle.file_commands.specs.Text.{log_text}
-use Rattle.sink_text.specs.Writing.{WritesAll, WritesFront}
+use Rattle.sink_text.specs.Writing.{WritesAll, WritesPrefix}
 use Rattle.file_commands.specs.Writing.{Answers}
 use Rattle.file_commands.specs.declared.ending.status.Status.{Status}
 use Rattle.file_commands.specs.declared.ending.status.Status.TheVariants.{WriteFault}
@@ -35,13 +35,13 @@ pub record EndsByCause (plan : Plan) (file file_now : SourceState) (out out_now 
 pub record EndsByWriting (plan : Plan) (file file_now : SourceState) (out out_now : SinkState) (result : Status) : Type 0 where
   pub earlier : List ℕ
   pub next : List ℕ
-  pub read : HasReadFront most_of_a_log file file_now (earlier ++ next)
+  pub read : HasReadPrefix most_of_a_log file file_now (earlier ++ next)
   pub near : length next ≤ 512
   pub between : SinkState
   pub lines : WritesAll out between (log_text plan earlier)
   pub more : List ℕ
   pub adds : log_text plan (earlier ++ next) ≡ log_text plan earlier ++ more
-  pub failed : WritesFront between out_now more
+  pub failed : WritesPrefix between out_now more
   pub answer : result ≡ WriteFault
 
 -- a log was decoded: what it and the sink reported before and now, and the answer
@@ -66,8 +66,8 @@ RunsDecode plan name effect = CannotOpen (needed_by_decode name) [] (LogOf name)
 -- a log that has no fault, and that reported its bytes before and after
 pub record IsGoodLog (opened back : SourceState) : Type 0 where
   pub text : List ℕ
-  pub told : opened.left ≡ Some text
-  pub tells : IsSome back.left
+  pub reported : opened.left ≡ Some text
+  pub reports : IsSome back.left
   pub no_fault : Rose opened.faults back.faults → ⊥
   pub lines : bad_at_end text ≡ None
   pub most : length text ≤ most_of_a_log

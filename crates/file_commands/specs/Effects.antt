@@ -1,8 +1,8 @@
 -- The effect of a command: what the outside and the output reported before it and after it, and its status. All of it is this
 -- project's own.
 use Rattle.std.specs.Prelude.{List, ℕ}
-use Rattle.feed_link.specs.Told.{SinkState}
-use Rattle.feed_link.specs.Openings.{OutsideState}
+use Rattle.outside_traits.specs.States.{SinkState}
+use Rattle.outside_traits.specs.Openings.{OutsideState}
 use Rattle.file_commands.specs.Writing.{Answers}
 use Rattle.file_commands.specs.declared.ending.status.Status.{Status}
 

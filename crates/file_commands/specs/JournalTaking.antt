@@ -1,6 +1,6 @@
 -- Scaffolding: the bytes that a converter of journals has taken, and the text that it has given for them.
 use Rattle.std.specs.Prelude.{ℕ, ◌≤◌, Option, List}
-use Rattle.station_config.specs.Station.{StationFields, settings_of}
+use Rattle.station_values.specs.Station.{StationFields, settings_of}
 use Rattle.file_commands.specs.LineTaking.{IsTakenBy, LineTaker, LineWay, file_says, line_taker}
 use Rattle.file_commands.specs.Migrating.{journal_of}
 use Rattle.file_commands.specs.Moving.{HasMoved, MoverFields}

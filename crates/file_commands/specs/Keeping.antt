@@ -1,8 +1,8 @@
 -- Scaffolding: what private functions guarantee of one opening of a file.
 use Rattle.std.specs.Prelude.{ℕ, ◌⊎◌, None, Some, List, [], ◌∷◌, Result, MatchResult}
-use Rattle.feed_link.specs.Told.{SourceState}
-use Rattle.feed_link.specs.Openings.{OutsideState, MakesOpenings, log_visit}
-use Rattle.feed_link.specs.Openings.Wanted.{LogOf}
+use Rattle.outside_traits.specs.States.{SourceState}
+use Rattle.outside_traits.specs.Openings.{OutsideState, MakesOpenings, log_visit}
+use Rattle.outside_traits.specs.Openings.Wanted.{LogOf}
 use Rattle.file_reader.specs.Ends.{EndsReading}
 use Rattle.file_reader.specs.declared.reader.FileEnd.{FileEnd}
 use Rattle.file_commands.specs.Effects.{Effect}

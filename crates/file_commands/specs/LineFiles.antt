@@ -2,13 +2,13 @@
 -- say, which text the lines give, and the status. All of it is this project's own.
 use Rattle.std.specs.Prelude.{◌≡◌, ℕ, ◌⊎◌, ◌≤◌, false, IsSome, Option, Some, None, List, [], ◌∷◌, ◌++◌, length, map}
 use Rattle.clock_page.specs.Page.{PageFields}
-use Rattle.feed_link.specs.Faults.{Rose}
-use Rattle.feed_link.specs.Told.{SourceState, SinkState}
-use Rattle.feed_link.specs.Openings.{Opening, OutsideState, Wanted, MakesOpenings, log_visit, visited}
-use Rattle.feed_link.specs.Openings.Wanted.{LogOf}
-use Rattle.file_reader.specs.Ends.{HasReadFront}
+use Rattle.outside_traits.specs.Faults.{Rose}
+use Rattle.outside_traits.specs.States.{SourceState, SinkState}
+use Rattle.outside_traits.specs.Openings.{Opening, OutsideState, Wanted, MakesOpenings, log_visit, visited}
+use Rattle.outside_traits.specs.Openings.Wanted.{LogOf}
+use Rattle.file_reader.specs.Ends.{HasReadPrefix}
 use Rattle.line_cutter.specs.Items.{HasItems, Saying}
-use Rattle.station_config.specs.Station.{StationFields}
+use Rattle.station_values.specs.Station.{StationFields}
 use Rattle.tick_units.specs.Log.{has_tail}
 use Rattle.file_commands.specs.Effects.{Effect}
 use Rattle.file_commands.specs.Endings.{status_of, status_line}
@@ -16,7 +16,7 @@ use Rattle.file_commands.specs.Opening.{CannotOpen}
 use Rattle.file_commands.specs.Reading.{ReadsLines}
 use Rattle.file_commands.specs.StationFile.{IsStation, HasStation, EndsAtStation}
 use Rattle.file_commands.specs.Text.{page_text}
-use Rattle.sink_text.specs.Writing.{WritesAll, WritesFront}
+use Rattle.sink_text.specs.Writing.{WritesAll, WritesPrefix}
 use Rattle.file_commands.specs.Writing.{Answers}
 use Rattle.file_commands.specs.declared.ending.Ending.{Ending}
 use Rattle.file_commands.specs.declared.ending.Ending.TheVariants as ending
@@ -61,9 +61,9 @@ pub record EndsRunning (f : LineFile) (file file_now : SourceState) (out out_now
 pub record StopsRunning (f : LineFile) (file file_now : SourceState) (out out_now : SinkState) (result : Status) : Type 0 where
   pub earlier : List ℕ
   pub next : List ℕ
-  pub behind : List ℕ
-  pub read : HasReadFront f.most file file_now (earlier ++ (next ++ behind))
-  pub near : length (next ++ behind) ≤ 512
+  pub later : List ℕ
+  pub read : HasReadPrefix f.most file file_now (earlier ++ (next ++ later))
+  pub near : length (next ++ later) ≤ 512
   pub items : List f.Item
   pub said : HasItemsOf f earlier items None
   pub longer : List f.Item
@@ -72,7 +72,7 @@ pub record StopsRunning (f : LineFile) (file file_now : SourceState) (out out_no
   pub given : WritesAll out between (f.text items)
   pub more : List ℕ
   pub adds : f.text longer ≡ f.text items ++ more
-  pub failed : WritesFront between out_now more
+  pub failed : WritesPrefix between out_now more
   pub answer : result ≡ WriteFault
 
 -- a file was run through: what it and the sink reported before and now, and the answer
@@ -114,8 +114,8 @@ RunsAgainst what file_of name file_name effect =
 -- nothing that they say ends a command otherwise
 pub record IsGoodFile (f : LineFile) (opened back : SourceState) : Type 0 where
   pub text : List ℕ
-  pub told : opened.left ≡ Some text
-  pub tells : IsSome back.left
+  pub reported : opened.left ≡ Some text
+  pub reports : IsSome back.left
   pub no_fault : Rose opened.faults back.faults → ⊥
   pub items : List f.Item
   pub said : HasItemsOf f text items None

@@ -2,8 +2,8 @@
 -- station gives. All of it is this project's own.
 use Rattle.std.specs.Prelude.{◌≡◌, ℕ, ◌+◌, ◌<◌, ◌^◌, ◌==◌, List, [], ◌∷◌, ◌++◌, codes, length, map, if◌then◌else◌}
 use Rattle.std.specs.List.{flat_map}
-use Rattle.feed_link.specs.Openings.{OutsideState}
-use Rattle.journal_entry.specs.Lawful.{IsLawful}
+use Rattle.outside_traits.specs.Openings.{OutsideState}
+use Rattle.journal_entry.specs.Valid.{IsValid}
 use Rattle.journal_entry.specs.Lines.{IsLineText, entry_of, form_of}
 use Rattle.journal_entry.specs.Numbers.{numbered_text}
 use Rattle.journal_entry.specs.declared.entry.Entry.{Entry}
@@ -11,8 +11,8 @@ use Rattle.journal_entry.specs.declared.line.JournalLine.{JournalLine}
 use Rattle.journal_entry.specs.declared.line.JournalLine.TheVariants.{Bare, Numbered}
 use Rattle.journal_entry.specs.declared.numbered.Numbered.{Numbered as NumberedEntry}
 use Rattle.line_cutter.specs.Items.{Saying}
-use Rattle.station_config.specs.Station.{StationFields, settings_of}
-use Rattle.system_fold.specs.Numbered.{numbered, numbered_behind}
+use Rattle.station_values.specs.Station.{StationFields, settings_of}
+use Rattle.system_fold.specs.Numbered.{numbered, numbered_next}
 use Rattle.system_fold.specs.Page.{page_of}
 use Rattle.system_fold.specs.Settings.{SettingsFields}
 use Rattle.file_commands.specs.Effects.{Effect}
@@ -38,21 +38,21 @@ HasFormOf [] line = Unit {0}
 HasFormOf (first ∷ more) line = form_of line ≡ form_of first
 
 -- a line has this number and this rate, or has neither
-abbrev pub TellsNumber : JournalLine → NumberedEntry → Type 0
-TellsNumber (Bare e) n = Unit {0}
-TellsNumber (Numbered told) n = (told.length ≡ n.length) × (told.rate ≡ n.rate)
+abbrev pub StatesNumber : JournalLine → NumberedEntry → Type 0
+StatesNumber (Bare e) n = Unit {0}
+StatesNumber (Numbered reported) n = (reported.length ≡ n.length) × (reported.rate ≡ n.rate)
 
 -- those of its place: where its entry stands after those before, and the rate of the page after it
-abbrev pub TellsItsPlace : SettingsFields → List Entry → JournalLine → Type 0
-TellsItsPlace settings before line = TellsNumber line (numbered_behind settings before (entry_of line))
+abbrev pub StatesItsPlace : SettingsFields → List Entry → JournalLine → Type 0
+StatesItsPlace settings before line = StatesNumber line (numbered_next settings before (entry_of line))
 
 -- a line may stand after the lines before it: there are fewer so far than there may be, and it has their form. Its entry is valid
 -- for the station, and it names its place where it names one
 pub record MayStand (settings : SettingsFields) (before : List JournalLine) (line : JournalLine) : Type 0 where
   pub room : length before < most_lines
   pub form : HasFormOf before line
-  pub lawful : IsLawful (length settings.sources) (entry_of line)
-  pub place : TellsItsPlace settings (entries_of before) line
+  pub valid : IsValid (length settings.sources) (entry_of line)
+  pub place : StatesItsPlace settings (entries_of before) line
 
 abbrev pub says_line : SettingsFields → Saying JournalLine
 says_line settings before text line = IsLineText text line × MayStand settings before line

@@ -8,7 +8,7 @@ use Rattle.journal_entry.specs.declared.line.Form.{Form}
 use Rattle.journal_entry.specs.declared.line.JournalLine.{JournalLine}
 use Rattle.journal_entry.specs.declared.numbered.Numbered.{Numbered}
 use Rattle.system_fold.specs.KeptFold.{FoldFields, StandsForJournal}
-use Rattle.system_fold.specs.Numbered.{numbered_behind}
+use Rattle.system_fold.specs.Numbered.{numbered_next}
 use Rattle.system_fold.specs.Page.{page_of}
 use Rattle.system_fold.specs.Settings.{SettingsFields}
 use Rattle.file_commands.specs.LineTaking.{LineTexts}
@@ -50,10 +50,10 @@ pub record HasMoved (m : MoverFields) (settings : SettingsFields) (lines : List 
 abbrev pub MovesLine : MoverFields → SettingsFields → List JournalLine → JournalLine → ℕ → Option Numbered → Type 0
 MovesLine m settings before line number None = (MayStand settings before line → ⊥) × HasMoved m settings before (Some number)
 MovesLine m settings before line number (Some n) = MayStand settings before line
-    × HasMoved m settings (before ++ line ∷ []) None × (n ≡ numbered_behind settings (entries_of before) (entry_of line))
+    × HasMoved m settings (before ++ line ∷ []) None × (n ≡ numbered_next settings (entries_of before) (entry_of line))
 
 -- and to its text: the text of the line in the second form
 abbrev pub MovesText : MoverFields → SettingsFields → List JournalLine → LineTexts → ℕ → Option ℕ → Type 0
 MovesText m settings before texts number None = ((line : JournalLine) → says_line settings before texts.text line → ⊥) × HasMoved m settings before (Some number)
 MovesText m settings before texts number (Some size) = (line : JournalLine) × says_line settings before texts.text line
-    × HasMoved m settings (before ++ line ∷ []) None × (take size texts.given ≡ numbered_text (numbered_behind settings (entries_of before) (entry_of line)) ++ codes "\n")
+    × HasMoved m settings (before ++ line ∷ []) None × (take size texts.given ≡ numbered_text (numbered_next settings (entries_of before) (entry_of line)) ++ codes "\n")

@@ -1,6 +1,6 @@
 -- A command that ends since a file or link could not be opened. All of it is this project's own.
 use Rattle.std.specs.Prelude.{Some, List}
-use Rattle.feed_link.specs.Openings.{Wanted, Visit, MakesOpenings}
+use Rattle.outside_traits.specs.Openings.{Wanted, Visit, MakesOpenings}
 use Rattle.file_commands.specs.Effects.{Effect, EndsWith}
 use Rattle.file_commands.specs.Endings.{status_of, status_line}
 use Rattle.file_commands.specs.declared.ending.Ending.TheVariants.{NotOpened}

@@ -1,8 +1,8 @@
 -- Which bytes of a file of lines were read, and why the reading ended: at its end, at a fault, at the limit of bytes, or at a bad
 -- line. All of it is this project's own.
 use Rattle.std.specs.Prelude.{◌≡◌, ℕ, ◌⊎◌, Option, None, Some, List}
-use Rattle.feed_link.specs.Told.{SourceState, NoneLeft}
-use Rattle.file_reader.specs.Ends.{HasReadFront, EndsReading}
+use Rattle.outside_traits.specs.States.{SourceState, NoneLeft}
+use Rattle.file_reader.specs.Ends.{HasReadPrefix, EndsReading}
 use Rattle.file_reader.specs.declared.reader.FileEnd.TheVariants.{Whole, Fault, TooLong}
 use Rattle.tick_units.specs.Log.{lines_of, or_unfinished}
 use Rattle.file_reader.specs.declared.log_end.LogEnd.{LogEnd}
@@ -20,5 +20,5 @@ abbrev pub ReadsLines : LogEnd → ℕ → SourceState → SourceState → List 
 ReadsLines log.Whole limit file file_now bytes bad = EndsReading Whole limit file file_now bytes × (bad_in_the_end bad bytes ≡ None)
 ReadsLines log.Fault limit file file_now bytes bad = EndsReading Fault limit file file_now bytes × (bad ≡ None)
 ReadsLines log.Long limit file file_now bytes bad = EndsReading TooLong limit file file_now bytes × (bad ≡ None)
-ReadsLines (log.BadLine line) limit file file_now bytes bad = HasReadFront limit file file_now bytes
+ReadsLines (log.BadLine line) limit file file_now bytes bad = HasReadPrefix limit file file_now bytes
     × ((bad ≡ Some line) ⊎ (NoneLeft file_now.left × (bad ≡ None) × (bad_in_the_end bad bytes ≡ Some line)))

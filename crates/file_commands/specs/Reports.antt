@@ -1,13 +1,13 @@
 -- What the last line of a command reports, and its status.
 use Rattle.std.specs.Prelude.{ℕ, List, ◌++◌}
-use Rattle.feed_link.specs.Told.{SinkState}
+use Rattle.outside_traits.specs.States.{SinkState}
 use Rattle.file_commands.specs.Endings.{status_of, status_line}
 use Rattle.file_commands.specs.StationFile.{station_line}
 use Rattle.file_commands.specs.declared.ending.status.Status.{Status}
 use Rattle.file_commands.specs.declared.ending.status.Status.TheVariants.{Station, WriteFault}
 use Rattle.file_commands.specs.declared.report.Report.{Report}
 use Rattle.file_commands.specs.declared.report.Report.TheVariants.{Ended, Refused, Unwritten}
-use Rattle.sink_text.specs.Writing.{WritesAll, WritesFront}
+use Rattle.sink_text.specs.Writing.{WritesAll, WritesPrefix}
 
 abbrev pub status_in : Report → Status
 status_in (Ended ending) = status_of ending
@@ -22,4 +22,4 @@ EndsInLine line out out_now = (before : List ℕ) × WritesAll out out_now (befo
 abbrev pub Reports : Report → SinkState → SinkState → Type 0
 Reports (Ended ending) out out_now = EndsInLine (status_line ending) out out_now
 Reports (Refused fault) out out_now = EndsInLine (station_line fault) out out_now
-Reports Unwritten out out_now = (text : List ℕ) × WritesFront out out_now text
+Reports Unwritten out out_now = (text : List ℕ) × WritesPrefix out out_now text

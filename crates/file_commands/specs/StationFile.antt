@@ -1,13 +1,13 @@
 -- A station file that is read whole, and why its station can't be used: a fault of the file or of its text, or no memory. All of it
 -- is this project's own.
 use Rattle.std.specs.Prelude.{◌≡◌, ℕ, ◌⊎◌, ◌^◌, IsSome, Some, None, List, [], ◌∷◌, ◌++◌, codes, decimal}
-use Rattle.feed_link.specs.Told.{SourceState}
-use Rattle.feed_link.specs.Openings.{Wanted, MakesOpenings, log_visit}
+use Rattle.outside_traits.specs.States.{SourceState}
+use Rattle.outside_traits.specs.Openings.{Wanted, MakesOpenings, log_visit}
 use Rattle.file_reader.specs.Ends.{EndsReading}
 use Rattle.file_reader.specs.declared.reader.FileEnd.{FileEnd}
 use Rattle.file_reader.specs.declared.reader.FileEnd.TheVariants as file
 use Rattle.station_reader.specs.Faults.{Says, Refuses as RefusesStation}
-use Rattle.station_config.specs.Station.{StationFields}
+use Rattle.station_values.specs.Station.{StationFields}
 use Rattle.station_reader.specs.declared.fault.StationFault.{StationFault}
 use Rattle.station_reader.specs.declared.fault.StationFault.TheVariants as fault
 use Rattle.file_commands.specs.Effects.{Effect, EndsWith}
@@ -41,9 +41,9 @@ IsNamed fault.Memory = ⊥
 IsNamed _ = Unit {0}
 
 -- an obstacle that a status line reports
-abbrev pub IsTold : Obstacle → Type 0
-IsTold (Ends ending) = Unit {0}
-IsTold (Faulty fault) = IsNamed fault
+abbrev pub IsReported : Obstacle → Type 0
+IsReported (Ends ending) = Unit {0}
+IsReported (Faulty fault) = IsNamed fault
 
 abbrev pub status_at : Obstacle → Status
 status_at (Ends ending) = status_of ending
@@ -81,6 +81,6 @@ pub record HasStation (opened back : SourceState) (of : StationFields) : Type 0 
 -- a file that says a station, and that reported its bytes before and after
 pub record IsStation (of : StationFields) (opened back : SourceState) : Type 0 where
   pub text : List ℕ
-  pub told : opened.left ≡ Some text
-  pub tells : IsSome back.left
+  pub reported : opened.left ≡ Some text
+  pub reports : IsSome back.left
   pub says : Says text of

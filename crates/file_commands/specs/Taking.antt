@@ -1,12 +1,12 @@
 -- Scaffolding: what the loops over the bytes of a file keep. A taker stands for the bytes that it has taken, for the text that it
 -- has given for them, and for their first bad line.
 use Rattle.std.specs.Prelude.{◌≡◌, ℕ, ◌≤◌, Option, None, Some, List, [], ◌++◌, length, take, Result, Ok, Err, MatchResult}
-use Rattle.feed_link.specs.Told.{SourceState, SinkState}
-use Rattle.file_reader.specs.Ends.{HasReadFront}
+use Rattle.outside_traits.specs.States.{SourceState, SinkState}
+use Rattle.file_reader.specs.Ends.{HasReadPrefix}
 use Rattle.journal_entry.specs.declared.writer.TheConstants.{LINE_ROOM}
 use Rattle.pulse_log.specs.declared.reader.BadLine as log
 use Rattle.file_commands.specs.Reading.{ReadsLines}
-use Rattle.sink_text.specs.Writing.{WritesAll, WritesFront}
+use Rattle.sink_text.specs.Writing.{WritesAll, WritesPrefix}
 use Rattle.file_reader.specs.declared.log_end.LogEnd.{LogEnd}
 use Rattle.file_commands.specs.declared.reading.Stop.{Stop}
 use Rattle.file_commands.specs.declared.reading.Stop.TheVariants.{BadLine, WriteFault}
@@ -41,7 +41,7 @@ Fits (Err bad) = Unit {0}
 abbrev pub IsGiven : Result (Unit {0}) Stop → Gives → List ℕ → SinkState → SinkState → Type 0
 IsGiven (Ok all) gives line out out_now = (bad_of gives ≡ None) × WritesAll out out_now (given gives line)
 IsGiven (Err (BadLine number)) gives line out out_now = (bad_of gives ≡ Some number) × WritesAll out out_now (given gives line)
-IsGiven (Err WriteFault) gives line out out_now = (bad_of gives ≡ None) × WritesFront out out_now (given gives line)
+IsGiven (Err WriteFault) gives line out out_now = (bad_of gives ≡ None) × WritesPrefix out out_now (given gives line)
 
 -- all of a piece was taken, or its bytes up to a bad line, and the text of them is written since the start; or a write of it
 -- failed
@@ -51,11 +51,11 @@ pub record TakesAll (holds : Holds) (start out : SinkState) (bytes : List ℕ) :
   pub written : WritesAll start out text
 
 pub record MeetsBad (holds : Holds) (number : ℕ) (start out : SinkState) (bytes : List ℕ) : Type 0 where
-  pub front : List ℕ
-  pub behind : List ℕ
-  pub all : front ++ behind ≡ bytes
+  pub prefix : List ℕ
+  pub later : List ℕ
+  pub all : prefix ++ later ≡ bytes
   pub text : List ℕ
-  pub held : holds front text (Some number)
+  pub held : holds prefix text (Some number)
   pub written : WritesAll start out text
 
 -- a write failed in the text that the next bytes add, after the text of those before them was written whole; these and what was read
@@ -63,16 +63,16 @@ pub record MeetsBad (holds : Holds) (number : ℕ) (start out : SinkState) (byte
 pub record Stops (says : Says) (start out : SinkState) (bytes : List ℕ) : Type 0 where
   pub earlier : List ℕ
   pub next : List ℕ
-  pub behind : List ℕ
-  pub all : earlier ++ (next ++ behind) ≡ bytes
-  pub near : length (next ++ behind) ≤ 512
+  pub later : List ℕ
+  pub all : earlier ++ (next ++ later) ≡ bytes
+  pub near : length (next ++ later) ≤ 512
   pub text : List ℕ
   pub said : says earlier text
   pub between : SinkState
   pub whole : WritesAll start between text
   pub more : List ℕ
   pub adds : says (earlier ++ next) (text ++ more)
-  pub failed : WritesFront between out more
+  pub failed : WritesPrefix between out more
 
 -- why the taking of these bytes stopped in their last piece
 abbrev pub StopsTaking : Holds → Says → SinkState → SinkState → Stop → List ℕ → Type 0
@@ -92,19 +92,19 @@ flow_of file file_now out out_now = record { file = file; file_now = file_now; o
 -- the reading ended by itself, with the text of the bytes taken written; bytes were read after them only where they have
 -- a bad line
 pub record EndsItself (holds : Holds) (limit : ℕ) (flow : Flow) (end : LogEnd) : Type 0 where
-  pub front : List ℕ
-  pub behind : List ℕ
+  pub prefix : List ℕ
+  pub later : List ℕ
   pub text : List ℕ
   pub bad : Option ℕ
-  pub held : holds front text bad
-  pub none_behind : bad ≡ None → behind ≡ []
-  pub read : ReadsLines end limit flow.file flow.file_now (front ++ behind) bad
+  pub held : holds prefix text bad
+  pub none_later : bad ≡ None → later ≡ []
+  pub read : ReadsLines end limit flow.file flow.file_now (prefix ++ later) bad
   pub written : WritesAll flow.out flow.out_now text
 
 -- a write failed in the text of the bytes taken, of which those after the written text came in one piece of 512 bytes
 pub record EndsStopped (says : Says) (limit : ℕ) (flow : Flow) : Type 0 where
   pub bytes : List ℕ
-  pub read : HasReadFront limit flow.file flow.file_now bytes
+  pub read : HasReadPrefix limit flow.file flow.file_now bytes
   pub stops : Stops says flow.out flow.out_now bytes
 
 abbrev pub EndsTaking : {E : Type 0} → Holds → Says → ℕ → Flow → Result LogEnd E → Type 0

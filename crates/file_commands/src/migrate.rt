@@ -10,7 +10,7 @@ ghost use Rattle.file_commands.specs.Reports.{Reports, status_in};
 ghost use Rattle.file_commands.specs.Unopened.{Lacks};
 ghost use Rattle.file_commands.specs.StationFile.{IsObstacle};
 ghost use Rattle.station_reader.specs.Faults.{Says};
-ghost use Rattle.station_config.specs.Station.{StationFields};
+ghost use Rattle.station_values.specs.Station.{StationFields};
 
 mod lines;
 mod mover;
@@ -24,24 +24,24 @@ use crate::reading::{ending_at, read_lines};
 use crate::report::Report;
 use crate::station_file::obstacle::{Obstacle, finish_at};
 use crate::station_file::{STATION_LIMIT, judge, open_station};
-use feed_link::{Failed, Outside, Sink, Source};
 use file_reader::{FileEnd, LogEnd};
 use lines::Mover;
 use mover::{JournalMover, MOST_LINES};
+use outside_traits::{Failed, Outside, Sink, Source};
 use std::alloc::Global;
 
 /// The most bytes of a journal.
 pub const JOURNAL_LIMIT: usize = 1 << 30;
 
 // The line after the last that a journal may have.
-const BEHIND: u64 = MOST_LINES + 1;
+const LINE_AFTER: u64 = MOST_LINES + 1;
 
 // How a command ends that has converted the lines of a journal so far.
 fn migrate_ending(end: LogEnd) -> Ending
     ensures { result ≡ migrate_ending end }
 {
     match end {
-        LogEnd::BadLine { line: BEHIND } => Ending::Full(MOST_LINES as u32),
+        LogEnd::BadLine { line: LINE_AFTER } => Ending::Full(MOST_LINES as u32),
         end => ending_at(Subject::Journal, end),
     }
 }

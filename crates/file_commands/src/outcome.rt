@@ -3,7 +3,7 @@ ghost use Rattle.std.specs.Prelude.{◌≡◌, None, Some};
 
 use crate::ending::status::Status;
 use crate::report::Report;
-use station_config::Station;
+use station_values::Station;
 
 /// What is known of the files of a command that has ended.
 #[derive(Drop)]

@@ -7,9 +7,9 @@ mod taking;
 
 use crate::ending::Ending;
 use crate::ending::subject::Subject;
-use feed_link::{Failed, Sink};
 use file_reader::LogEnd;
 use journal_entry::LINE_ROOM;
+use outside_traits::{Failed, Sink};
 use pulse_log::BadLine;
 use sink_text::write_all;
 pub use taking::{Taker, read_lines};

@@ -9,11 +9,11 @@ pub mod obstacle;
 
 use crate::ending::Ending;
 use crate::ending::subject::Subject;
-use feed_link::{Failed, Outside};
 use file_reader::{FileEnd, read_whole};
 use obstacle::Obstacle;
-use station_config::Station;
+use outside_traits::{Failed, Outside};
 use station_reader::{StationFault, read_station};
+use station_values::Station;
 use std::alloc::Global;
 
 /// The most bytes of a station file.

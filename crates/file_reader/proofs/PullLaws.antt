@@ -1,7 +1,7 @@
 -- What was read of a file, one read more.
 use Rattle.std.proofs.Common.{◌≡◌, ℕ, List, length, ◌∙◌, arith}
-use Rattle.feed_link.specs.Told.{SourceState, Takes}
-use Rattle.feed_link.proofs.ToldLaws.{Takes-more}
+use Rattle.outside_traits.specs.States.{SourceState, Takes}
+use Rattle.outside_traits.proofs.StateLaws.{Takes-more}
 use Rattle.file_reader.specs.Ends.{EndsReading}
 use Rattle.file_reader.specs.Reader.{room_of, limit_of, HasPulled}
 use Rattle.file_reader.specs.declared.reader.FileReader.{FileReader}
@@ -12,7 +12,7 @@ pub too_long : (reader : FileReader) (start before now : SourceState) (bytes ext
     Takes before.left now.left extra → length extra ≡ 1 → now.faults ≡ before.faults → EndsReading TooLong (limit_of reader) start now bytes
 too_long reader start before now bytes extra pulled full more one same = record {
   extra = extra;
-  taken = Takes-more start.left before.left now.left bytes extra pulled.front.taken more;
-  most = pulled.front.most;
-  cause = (omega (arith, full, pulled.counted), one, same ∙ pulled.front.no_fault);
+  taken = Takes-more start.left before.left now.left bytes extra pulled.prefix.taken more;
+  most = pulled.prefix.most;
+  cause = (omega (arith, full, pulled.counted), one, same ∙ pulled.prefix.no_fault);
 }

@@ -1,14 +1,14 @@
 -- What was read of a file of which at most `limit` bytes are taken, and how its reading ended.
 use Rattle.std.specs.Prelude.{◌≡◌, ◌≤◌, ℕ, Option, None, Some, List, [], ◌++◌, length}
-use Rattle.feed_link.specs.Faults.{RoseByOne}
-use Rattle.feed_link.specs.Told.{SourceState, Takes, NoneLeft}
+use Rattle.outside_traits.specs.Faults.{RoseByOne}
+use Rattle.outside_traits.specs.States.{SourceState, Takes, NoneLeft}
 use Rattle.file_reader.specs.declared.log_end.LogEnd.{LogEnd}
 use Rattle.file_reader.specs.declared.log_end.LogEnd.TheVariants as lines
 use Rattle.file_reader.specs.declared.reader.FileEnd.{FileEnd}
 use Rattle.file_reader.specs.declared.reader.FileEnd.TheVariants.{Whole, Fault, TooLong}
 
 -- these bytes were read so far, and no read failed
-pub record HasReadFront (limit : ℕ) (file file_now : SourceState) (bytes : List ℕ) : Type 0 where
+pub record HasReadPrefix (limit : ℕ) (file file_now : SourceState) (bytes : List ℕ) : Type 0 where
   pub taken : Takes file.left file_now.left bytes
   pub most : length bytes ≤ limit
   pub no_fault : file_now.faults ≡ file.faults

@@ -1,7 +1,7 @@
 -- The state of a reader of a file, by the bytes that it has read since the file's start. All of it is this project's own.
 use Rattle.std.specs.Prelude.{◌≡◌, ◌+◌, ◌-◌, ℕ, List, ◌++◌, length, take}
-use Rattle.feed_link.specs.Told.{SourceState}
-use Rattle.file_reader.specs.Ends.{HasReadFront, EndsReading}
+use Rattle.outside_traits.specs.States.{SourceState}
+use Rattle.file_reader.specs.Ends.{HasReadPrefix, EndsReading}
 use Rattle.file_reader.specs.declared.reader.FileReader.{FileReader}
 use Rattle.file_reader.specs.declared.reader.Pulled.{Pulled}
 use Rattle.file_reader.specs.declared.reader.Pulled.TheVariants.{Piece, Ended}
@@ -19,7 +19,7 @@ piece_of reader = take reader.count reader.piece
 
 -- it has read these bytes of a file since its start
 pub record HasPulled (reader : FileReader) (file file_now : SourceState) (bytes : List ℕ) : Type 0 where
-  pub front : HasReadFront (limit_of reader) file file_now bytes
+  pub prefix : HasReadPrefix (limit_of reader) file file_now bytes
   pub counted : length bytes + room_of reader ≡ limit_of reader
 
 -- what one more read gives of a file of which these bytes were read since its start: the piece after them, or the end

@@ -3,7 +3,7 @@ ghost use Rattle.std.specs.Prelude.{◌≡◌, ◌+◌, ◌<◌, ◌≤◌, ◌+
 ghost use Rattle.file_reader.specs.Pieces.{EndsPieces, TakesOrStops};
 
 use crate::reader::{FileEnd, FileReader, Pulled};
-use feed_link::Source;
+use outside_traits::Source;
 
 /// Takes the bytes of a file, piece after piece, until it stops by itself, for a reason of type `E`.
 pub trait PieceTaker<E> {

@@ -1,9 +1,9 @@
 // A reader of a file, which gives one piece after another.
 ghost use Rattle.std.specs.Prelude.{◌≡◌, ◌+◌, ◌<◌, ◌≤◌, ℕ, List, [], length, IfOk};
-ghost use Rattle.feed_link.specs.Faults.{HasCause};
-ghost use Rattle.feed_link.specs.Told.{SourceState, Reads};
+ghost use Rattle.outside_traits.specs.Faults.{HasCause};
+ghost use Rattle.outside_traits.specs.States.{SourceState, Reads};
 
-use feed_link::{Failed, Source};
+use outside_traits::{Failed, Source};
 
 /// The most bytes of one read.
 pub const PIECE: usize = 512;

@@ -4,7 +4,7 @@ ghost use Rattle.file_reader.specs.Ends.{EndsReading};
 
 use crate::pieces::{PieceTaker, read_pieces};
 use crate::reader::FileEnd;
-use feed_link::Source;
+use outside_traits::Source;
 
 // Why the taking of a piece stops for which there is room: never.
 #[derive(Drop)]

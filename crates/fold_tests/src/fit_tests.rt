@@ -9,7 +9,7 @@ use tick_units::Kind;
 
 // The page gives the time after these numbers of entries, and after no other. At each number `page_after` finds that the interval of the
 // sweep leads to the same page as a new selection.
-fn is_told_after(
+fn is_used_after(
     rt: &impl Abort,
     alloc: Global,
     kinds: &[SourceKind],
@@ -17,14 +17,14 @@ fn is_told_after(
     want: &[usize],
 ) {
     let settings = settings_of(rt, 1000, kinds);
-    let mut told = Vec::new(alloc);
+    let mut reported = Vec::new(alloc);
     for place in 0..journal.len() {
         let entries = place + 1;
         if page_after(rt, &settings, &journal[..entries]).sync {
-            told.push(entries).expect(rt, "no memory");
+            reported.push(entries).expect(rt, "no memory");
         }
     }
-    same(rt, told.as_slice(), want);
+    same(rt, reported.as_slice(), want);
 }
 
 // The leap second ends at 3692217600.
@@ -44,7 +44,7 @@ const OVER_A_LEAP: [&str; 8] = [
 fn a_source_is_unfit_after_a_leap_and_fit_again(rt: HostRuntime) {
     let alloc = rt.alloc();
     let journal = journal_of(&rt, alloc, &OVER_A_LEAP);
-    is_told_after(&rt, alloc, &[DCF], &journal, &[4, 8]);
+    is_used_after(&rt, alloc, &[DCF], &journal, &[4, 8]);
 }
 
 // Adds a minute of a radio that is this many seconds off.
@@ -77,7 +77,7 @@ fn of_three(rt: &impl Abort, alloc: Global) -> Vec<Entry> {
 fn a_source_stands_outside_and_becomes_unfit(rt: HostRuntime) {
     let alloc = rt.alloc();
     let journal = of_three(&rt, alloc);
-    is_told_after(&rt, alloc, &[DCF; 3], &journal, &[10, 12, 13, 14, 15]);
+    is_used_after(&rt, alloc, &[DCF; 3], &journal, &[10, 12, 13, 14, 15]);
 }
 
 // Four minutes of sixteen radios. The first nine are right, and the others ten seconds off.
@@ -101,5 +101,5 @@ const FROM_49_TO_64: [usize; 16] = [
 fn seven_of_sixteen_stand_outside(rt: HostRuntime) {
     let alloc = rt.alloc();
     let journal = of_sixteen(&rt, alloc);
-    is_told_after(&rt, alloc, &[DCF; 16], &journal, &FROM_49_TO_64);
+    is_used_after(&rt, alloc, &[DCF; 16], &journal, &FROM_49_TO_64);
 }

@@ -1,17 +1,17 @@
 //! Journals and settings for tests.
 ghost use Rattle.std.specs.Prelude.{◌≡◌, ◌≤◌, ◌<◌, ◌^◌, true, length};
-ghost use Rattle.journal_entry.specs.Lawful.{IsLawfulKind, IsLawfulVerdict, IsLawfulWhat, IsTold};
+ghost use Rattle.journal_entry.specs.Valid.{IsValidKind, IsValidVerdict, IsValidWhat, IsSupported};
 ghost use Rattle.tick_units.specs.Samples as samples;
-ghost use Rattle.system_fold.specs.Settings.{AreLawful, IsJournal, IsKept};
+ghost use Rattle.system_fold.specs.Settings.{AreValid, IsJournal, IsKept};
 
 use crate::shared::same;
 use clock_page::Page;
-use feed_link::Address;
 use journal_entry::{ENTRY_ROOM, Entry, What, read_entry};
+use outside_traits::Address;
 use std::alloc::Global;
 use std::process::Abort;
 use system_fold::{Settings, SourceKind, page_by_steps, page_from_scratch, page_text};
-use tick_units::{END_OF_TOLD, Kind, Plan, Sample, Span, is_told};
+use tick_units::{END_OF_SUPPORTED, Kind, Plan, Sample, Span, is_supported};
 
 pub const DCF: SourceKind = SourceKind::Radio(Plan::Dcf);
 
@@ -20,29 +20,29 @@ pub const SERVER: SourceKind = SourceKind::Server(Address {
     port: 123,
 });
 
-fn may_be_told(second: u64) -> bool
-    ensures { result ≡ true → IsTold second }
+fn may_be_supported(second: u64) -> bool
+    ensures { result ≡ true → IsSupported second }
 {
-    is_told(second)
+    is_supported(second)
 }
 
-fn is_lawful_verdict(second: u64, leap_at: u64) -> bool
-    ensures { result ≡ true → IsLawfulVerdict second leap_at }
+fn is_valid_verdict(second: u64, leap_at: u64) -> bool
+    ensures { result ≡ true → IsValidVerdict second leap_at }
 {
     if leap_at == 0 {
-        return may_be_told(second);
+        return may_be_supported(second);
     }
-    if !may_be_told(leap_at) {
+    if !may_be_supported(leap_at) {
         return false;
     }
-    may_be_told(second)
+    may_be_supported(second)
 }
 
-fn is_lawful_kind(kind: &Kind) -> bool
-    ensures { result ≡ true → IsLawfulKind kind.now }
+fn is_valid_kind(kind: &Kind) -> bool
+    ensures { result ≡ true → IsValidKind kind.now }
 {
     match kind {
-        Kind::Verdict { second, leap_at } => is_lawful_verdict(*second, *leap_at),
+        Kind::Verdict { second, leap_at } => is_valid_verdict(*second, *leap_at),
         _ => true,
     }
 }
@@ -54,8 +54,8 @@ fn is_length(span: Span) -> bool
     0 <= units && units < 1 << 66
 }
 
-fn is_lawful_sample(sample: &Sample) -> bool
-    ensures { result ≡ true → samples.IsLawful sample.now }
+fn is_valid_sample(sample: &Sample) -> bool
+    ensures { result ≡ true → samples.IsValid sample.now }
 {
     if !is_length(sample.offset) {
         return false;
@@ -66,25 +66,25 @@ fn is_lawful_sample(sample: &Sample) -> bool
     is_length(sample.dispersion)
 }
 
-fn is_lawful_what(what: &What) -> bool
-    ensures { result ≡ true → IsLawfulWhat what.now }
+fn is_valid_what(what: &What) -> bool
+    ensures { result ≡ true → IsValidWhat what.now }
 {
     match what {
-        What::Heard(kind) => is_lawful_kind(kind),
-        What::Sample(sample) => is_lawful_sample(sample),
+        What::Heard(kind) => is_valid_kind(kind),
+        What::Sample(sample) => is_valid_sample(sample),
         What::Declined(_) => true,
-        What::Notice(leap_at) => *leap_at < END_OF_TOLD,
+        What::Notice(leap_at) => *leap_at < END_OF_SUPPORTED,
     }
 }
 
 fn is_kept(feeds: u32, e: &Entry) -> bool
-    ensures lawful { result ≡ true → IsKept feeds e.now }
+    ensures valid { result ≡ true → IsKept feeds e.now }
 {
     let _moment = e.at.get();
     if e.feed >= feeds {
         return false;
     }
-    is_lawful_what(&e.what)
+    is_valid_what(&e.what)
 }
 
 fn is_journal(settings: &Settings, journal: &[Entry]) -> bool
@@ -100,7 +100,7 @@ fn is_journal(settings: &Settings, journal: &[Entry]) -> bool
 
 // Whether the bound is this many milliseconds.
 fn is_bound(settings: &Settings, milliseconds: u64) -> bool
-    ensures { result ≡ true → AreLawful settings.now }
+    ensures { result ≡ true → AreValid settings.now }
 {
     if milliseconds < 1 || milliseconds > 16_000 {
         return false;
@@ -108,8 +108,8 @@ fn is_bound(settings: &Settings, milliseconds: u64) -> bool
     Settings::new(milliseconds as u32).bound() == settings.bound()
 }
 
-fn are_lawful(settings: &Settings) -> bool
-    ensures { result ≡ true → AreLawful settings.now }
+fn are_valid(settings: &Settings) -> bool
+    ensures { result ≡ true → AreValid settings.now }
 {
     is_bound(
         settings,
@@ -119,7 +119,7 @@ fn are_lawful(settings: &Settings) -> bool
 
 /// The page of a journal, where it is one of valid entries: by steps and from scratch, which give the same.
 pub fn page_after(rt: &impl Abort, settings: &Settings, journal: &[Entry]) -> Page {
-    if !are_lawful(settings) {
+    if !are_valid(settings) {
         panic!(*rt; "no valid settings");
     }
     if !is_journal(settings, journal) {

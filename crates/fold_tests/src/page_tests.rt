@@ -176,14 +176,14 @@ const A_LATE_MINUTE: [&str; 6] = [
 ];
 
 #[test]
-fn a_page_tells_the_rate_of_its_peer(rt: HostRuntime) {
+fn a_page_reports_the_rate_of_its_peer(rt: HostRuntime) {
     let line =
         "page 6 1 1 44434600 17077896086170592347 362003000 37547671946 0 28981 ed00e16c00000000 0 -53687";
     has_page(&rt, rt.alloc(), 1000, &A_LATE_MINUTE, line);
 }
 
 // The page after four minutes, where it gives no time, and where it gives the time until a moment.
-const UNTOLD: &str = "page 5 0 0 494e4954 0 302000000 0 0 1048576 0000000000000000 0 0";
+const UNREPORTED: &str = "page 5 0 0 494e4954 0 302000000 0 0 1048576 0000000000000000 0 0";
 
 const NEAR: &str =
     "page 5 1 1 44434600 17077896086183477248 302000000 364906898 0 61542 ed00e13000000000 0 0";
@@ -195,14 +195,14 @@ const WIDEST: &str =
 #[test]
 fn a_page_is_trusted_up_to_the_bound(rt: HostRuntime) {
     let alloc = rt.alloc();
-    has_page(&rt, alloc, 939, &MINUTES, UNTOLD);
+    has_page(&rt, alloc, 939, &MINUTES, UNREPORTED);
     has_page(&rt, alloc, 940, &MINUTES, NEAR);
-    has_page(&rt, alloc, 500, &MINUTES, UNTOLD);
+    has_page(&rt, alloc, 500, &MINUTES, UNREPORTED);
     has_page(&rt, alloc, 16_000, &MINUTES, WIDEST);
 }
 
 // An answer at 7 s from a server that is as far from the truth as it reports.
-fn told_by(root_disp: u32) -> Entry {
+fn entry_with(root_disp: u32) -> Entry {
     Entry {
         feed: 0,
         at: moment(7_000_000),
@@ -219,8 +219,8 @@ fn told_by(root_disp: u32) -> Entry {
 }
 
 // The page after eight such answers has this line. The bound of 125 ms is 8192 units of 2^-16 s.
-fn is_told_by(rt: &impl Abort, root_disp: u32, line: &str) {
-    servers_have_page(rt, 125, &[SERVER], &[told_by(root_disp); 8], line);
+fn has_page_with(rt: &impl Abort, root_disp: u32, line: &str) {
+    servers_have_page(rt, 125, &[SERVER], &[entry_with(root_disp); 8], line);
 }
 
 // The pages with a unit less than the bound, with the bound, and with a unit more.
@@ -236,7 +236,7 @@ const ABOVE: &str = "page 8 0 0 494e4954 0 7000000 0 0 1048576 0000000000000000 
 // more, with one more not at all.
 #[test]
 fn a_page_ends_at_the_least_moment(rt: HostRuntime) {
-    is_told_by(&rt, 8_191, BELOW);
-    is_told_by(&rt, 8_192, AT_THE_BOUND);
-    is_told_by(&rt, 8_193, ABOVE);
+    has_page_with(&rt, 8_191, BELOW);
+    has_page_with(&rt, 8_192, AT_THE_BOUND);
+    has_page_with(&rt, 8_193, ABOVE);
 }

@@ -35,15 +35,15 @@ last_push before [] item = refl
 last_push before (x ∷ xs) item = last_push (Some x) xs item
 
 -- one more start is next to the last one alone
-spaced_behind : (x : Mark) (xs : List Mark) (start : ℕ) → are_spaced (starts_of (x ∷ xs) ++ start ∷ []) ≡ (are_spaced (starts_of (x ∷ xs)) && is_near (last_or (Some x) xs) start)
-spaced_behind x [] start = and_true (is_between (x.at + 900000) (x.at + 1100000) start)
-spaced_behind x (y ∷ ys) start =
+spaced_after : (x : Mark) (xs : List Mark) (start : ℕ) → are_spaced (starts_of (x ∷ xs) ++ start ∷ []) ≡ (are_spaced (starts_of (x ∷ xs)) && is_near (last_or (Some x) xs) start)
+spaced_after x [] start = and_true (is_between (x.at + 900000) (x.at + 1100000) start)
+spaced_after x (y ∷ ys) start =
     let near = is_between (x.at + 900000) (x.at + 1100000) y.at in
-    ap (λ b. near && b) (spaced_behind y ys start) ∙ sym (and_assoc near (are_spaced (starts_of (y ∷ ys))) (is_near (last_or (Some y) ys) start))
+    ap (λ b. near && b) (spaced_after y ys start) ∙ sym (and_assoc near (are_spaced (starts_of (y ∷ ys))) (is_near (last_or (Some y) ys) start))
 
 spaced_to : (marks : List Mark) (start : ℕ) → are_spaced (starts_of marks ++ start ∷ []) ≡ (are_spaced (starts_of marks) && is_near (last_or None marks) start)
 spaced_to [] start = refl
-spaced_to (x ∷ xs) start = spaced_behind x xs start
+spaced_to (x ∷ xs) start = spaced_after x xs start
 
 starts_push : (marks : List Mark) (mark : Mark) → starts_of (marks ++ mark ∷ []) ≡ starts_of marks ++ mark.at ∷ []
 starts_push [] mark = refl
@@ -81,11 +81,11 @@ module _ {C : Type 0} (frame : Frame C) (marks : List Mark) (mark : Mark) (h : H
       puts test marks mark (before ∙ ap (word_of test) (take_all 61 marks (omega (arith, length_is)))) length_is is
       ∙ ap (word_of test) (sym (take_all 61 (marks ++ mark ∷ []) (omega (arith, length_now))))
 
-  pub behind_kept : frame.long_behind ≡ has_long (drop 61 (marks ++ mark ∷ []))
-  behind_kept =
+  pub after_kept : frame.long_after ≡ has_long (drop 61 (marks ++ mark ∷ []))
+  after_kept =
       let before : drop 61 marks ≡ [] = drop_all 61 marks (omega (arith, length_is)) in
       let now : drop 61 (marks ++ mark ∷ []) ≡ [] = drop_all 61 (marks ++ mark ∷ []) (omega (arith, length_now)) in
-      h.long_behind ∙ ap has_long before ∙ ap has_long (sym now)
+      h.long_after ∙ ap has_long before ∙ ap has_long (sym now)
 
 -- a frame that has the bits of 61 marks
 module _ {C : Type 0} (frame : Frame C) (marks : List Mark) (mark : Mark) (h : HasMarks frame marks) (le : 61 ≤ frame.count) where
@@ -98,8 +98,8 @@ module _ {C : Type 0} (frame : Frame C) (marks : List Mark) (mark : Mark) (h : H
   pub word_full : (test : Symbol → Bool) (word : ℕ) → word ≡ word_of test (take 61 marks) → word ≡ word_of test (take 61 (marks ++ mark ∷ []))
   word_full test word before = before ∙ ap (word_of test) (sym (take-append-le 61 marks (mark ∷ []) full))
 
-  pub behind_full : (behind : Bool) → behind ≡ (frame.long_behind || is_long mark.symbol) → behind ≡ has_long (drop 61 (marks ++ mark ∷ []))
-  behind_full behind e = e ∙ ap (λ b. b || is_long mark.symbol) h.long_behind ∙ sym (ap has_long (drop-append-le 61 marks (mark ∷ []) full) ∙ long_push (drop 61 marks) mark)
+  pub after_full : (later : Bool) → later ≡ (frame.long_after || is_long mark.symbol) → later ≡ has_long (drop 61 (marks ++ mark ∷ []))
+  after_full later e = e ∙ ap (λ b. b || is_long mark.symbol) h.long_after ∙ sym (ap has_long (drop-append-le 61 marks (mark ∷ []) full) ∙ long_push (drop 61 marks) mark)
 
 -- whatever the count
 module _ {C : Type 0} (frame : Frame C) (marks : List Mark) (mark : Mark) (h : HasMarks frame marks) where

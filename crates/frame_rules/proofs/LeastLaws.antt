@@ -16,11 +16,11 @@ abbrev AreAbove : ℕ → List Rule → Type 0
 AreAbove least [] = Unit {0}
 AreAbove least (rule ∷ rules) = (least < rule.number) × AreAbove rule.number rules
 
-tells-above : (least : ℕ) (rules : List Rule) → are_above least rules ≡ true → AreAbove least rules
-tells-above least [] h = tt
-tells-above least (rule ∷ rules) h =
+detects-above : (least : ℕ) (rules : List Rule) → are_above least rules ≡ true → AreAbove least rules
+detects-above least [] h = tt
+detects-above least (rule ∷ rules) h =
     let parts = and_parts _ _ h in
-    (ltb-true _ _ parts.0, tells-above rule.number rules parts.1)
+    (ltb-true _ _ parts.0, detects-above rule.number rules parts.1)
 
 -- what is above a number is above each lesser one
 above-all : (least : ℕ) (rules : List Rule) → AreAbove least rules → All (λ rule. IsTrue rule.broken → least ≤ rule.number) rules
@@ -46,4 +46,4 @@ rising-least least (rule ∷ rules) n h e = by_test rule.broken refl e (rising-l
         }
 
 pub first-is_least : (rules : List Rule) (n : ℕ) → are_above 0 rules ≡ true → first_broken rules ≡ Some n → IsLeastBroken rules n
-first-is_least rules n h e = rising-least 0 rules n (tells-above 0 rules h) e
+first-is_least rules n h e = rising-least 0 rules n (detects-above 0 rules h) e

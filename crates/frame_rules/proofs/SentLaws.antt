@@ -7,7 +7,7 @@ use Rattle.std.proofs.lemmas.List.{length-set}
 use Rattle.frame_rules.specs.Codes.{Code}
 use Rattle.frame_rules.specs.Digits.{bit_symbol}
 use Rattle.frame_rules.specs.Fields.{symbols_of}
-use Rattle.frame_rules.specs.Sendings.{Sending, spoilt_if}
+use Rattle.frame_rules.specs.Sendings.{Sending, damaged_if}
 use Rattle.tick_units.specs.Marks.{is_between}
 use Rattle.tick_units.specs.declared.marks.Mark.{Mark}
 use Rattle.tick_units.specs.declared.marks.Reduction.{Reduction}
@@ -83,9 +83,9 @@ pub alone_bit : (bit : Bool) → is_alone (bit_symbol bit) ≡ true
 alone_bit true = refl
 alone_bit false = refl
 
-pub spoilt_count : (spoilt : Bool) (symbols : List Symbol) → length (spoilt_if spoilt symbols) ≡ length symbols
-spoilt_count true symbols = length-set symbols 30 Odd
-spoilt_count false symbols = refl
+pub damaged_count : (damaged : Bool) (symbols : List Symbol) → length (damaged_if damaged symbols) ≡ length symbols
+damaged_count true symbols = length-set symbols 30 Odd
+damaged_count false symbols = refl
 
 -- how minutes follow one another
 pub record Shape : Type 0 where
@@ -157,5 +157,5 @@ pub record ReadsBack (code : Code) (sending : Sending) : Type 0 where
   pub opening : OpensAlone code sending shape ⊎ OpensAfter code sending shape
   pub closing : Closes code sending shape
   -- minutes that announce no leap second, and have none
-  pub minute : (spoilt : Bool) (c : Coded) → c.leap_at ≡ 0 → (c.leap_at == c.minute) ≡ false → IsMinute shape (spoilt_if spoilt (sending.spelt c))
-  pub no_leap : (spoilt : Bool) (c : Coded) (marks : List Mark) → c.leap_at ≡ 0 → symbols_of marks ≡ map (read_of code sending) (spoilt_if spoilt (sending.spelt c)) → (code.coded marks).leap_at ≡ 0
+  pub minute : (damaged : Bool) (c : Coded) → c.leap_at ≡ 0 → (c.leap_at == c.minute) ≡ false → IsMinute shape (damaged_if damaged (sending.spelt c))
+  pub no_leap : (damaged : Bool) (c : Coded) (marks : List Mark) → c.leap_at ≡ 0 → symbols_of marks ≡ map (read_of code sending) (damaged_if damaged (sending.spelt c)) → (code.coded marks).leap_at ≡ 0

@@ -26,5 +26,5 @@ abbrev pub odd_width : ℕ
 odd_width = 30000
 
 -- in a damaged minute the width of place 30 is in no class
-abbrev pub spoilt_if : Bool → List Symbol → List Symbol
-spoilt_if spoilt symbols = if spoilt then set symbols 30 Odd else symbols
+abbrev pub damaged_if : Bool → List Symbol → List Symbol
+damaged_if damaged symbols = if damaged then set symbols 30 Odd else symbols

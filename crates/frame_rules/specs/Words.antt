@@ -35,7 +35,7 @@ pub record HasMarks {C : Type 0} (frame : Frame C) (marks : List Mark) : Type 0 
   pub bits_a : frame.bits_a ≡ word_of has_a (take 61 marks)
   pub bits_b : frame.bits_b ≡ word_of has_b (take 61 marks)
   pub longs : frame.longs ≡ word_of is_long (take 61 marks)
-  pub long_behind : frame.long_behind ≡ has_long (drop 61 marks)
+  pub long_after : frame.long_after ≡ has_long (drop 61 marks)
   pub spacing : frame.spacing_broken ≡ breaks_spacing marks
   pub width : frame.width_broken ≡ breaks_width marks
   pub last : last_of frame ≡ last_or None marks

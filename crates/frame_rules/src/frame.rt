@@ -25,7 +25,7 @@ pub struct Frame<C> {
     longs: u64,
     // Of all marks: whether one from the 62nd on is Long, whether two neighbours do not start about a second apart, whether a width is
     // in no class, and the last mark, where there is one.
-    long_behind: bool,
+    long_after: bool,
     spacing_broken: bool,
     width_broken: bool,
     last_symbol: Symbol,
@@ -55,7 +55,7 @@ impl<C: CodePlan> Frame<C> {
             bits_a: 0,
             bits_b: 0,
             longs: 0,
-            long_behind: false,
+            long_after: false,
             spacing_broken: false,
             width_broken: false,
             last_symbol: Symbol::Zero,
@@ -81,7 +81,7 @@ impl<C: CodePlan> Frame<C> {
             self.longs = with_bit(self.longs, long, self.count);
             self.count += 1;
         } else {
-            raise(&mut self.long_behind, long);
+            raise(&mut self.long_after, long);
         }
     }
 
@@ -139,8 +139,8 @@ impl<C: CodePlan> Places for Frame<C> {
     }
 
     #[inline]
-    fn has_long_behind(&self) -> bool {
-        self.long_behind
+    fn has_long_after(&self) -> bool {
+        self.long_after
     }
 
     #[inline]

@@ -35,7 +35,7 @@ pub trait Places {
         ensures { (marks : List Mark) → stands_for self.now marks → result ≡ is_set is_long marks place };
 
     /// Whether a mark from the 62nd on is `Long`.
-    fn has_long_behind(&self) -> bool
+    fn has_long_after(&self) -> bool
         ensures { (marks : List Mark) → stands_for self.now marks → result ≡ has_long (drop 61 marks) };
 
     /// Whether two neighbouring marks do not start 900000 to 1100000 microseconds apart.

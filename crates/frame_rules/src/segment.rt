@@ -35,8 +35,8 @@ impl<'a> Places for Segment<'a> {
         }
     }
 
-    fn has_long_behind(&self) -> bool {
-        has_long_behind(self.marks)
+    fn has_long_after(&self) -> bool {
+        has_long_after(self.marks)
     }
 
     fn breaks_spacing(&self) -> bool {
@@ -53,7 +53,7 @@ impl<'a> Places for Segment<'a> {
 }
 
 // Whether a mark after the first 61 is Long.
-fn has_long_behind(marks: &[Mark]) -> bool
+fn has_long_after(marks: &[Mark]) -> bool
     ensures { result ≡ has_long (drop 61 marks.now) }
 {
     marks

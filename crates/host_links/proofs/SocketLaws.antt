@@ -2,9 +2,9 @@
 use Rattle.std.proofs.Common.{Option, List, [], ◌∷◌, ◌++◌, Bool, true, IsTrue, ◌≡◌, ◌&&◌, refl, ap, sym, ◌∙◌}
 use Rattle.std.proofs.lemmas.List.Folds.{list_all-append}
 use Rattle.std.specs.List.{list_all}
-use Rattle.feed_link.specs.Told.{Adds}
+use Rattle.outside_traits.specs.States.{Adds}
 use Rattle.host_links.specs.Sockets.{Passed, Repeats}
-use Rattle.feed_link.proofs.ToldLaws.{Adds-none, Adds-more}
+use Rattle.outside_traits.proofs.StateLaws.{Adds-none, Adds-more}
 
 pub no_call : (test : Passed → Bool) (a : Option (List Passed)) → Repeats test a a
 no_call test a = record { calls = []; all = refl; added = Adds-none a }

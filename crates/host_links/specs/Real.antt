@@ -1,7 +1,7 @@
 -- What real files, streams and links report: their counts of faults, and of a link its latest moment.
 use Rattle.std.specs.Prelude.{ℕ, None}
-use Rattle.feed_link.specs.Told.{SourceState, SinkState, LinkState}
-use Rattle.feed_link.specs.Openings.{OutsideState}
+use Rattle.outside_traits.specs.States.{SourceState, SinkState, LinkState}
+use Rattle.outside_traits.specs.Openings.{OutsideState}
 
 abbrev pub file_state : ℕ → SourceState
 file_state faults = record { left = None; faults = faults }

@@ -12,10 +12,10 @@ use Rattle.std.specs.declared.net.ipv4_addr.Ipv4Addr.{Ipv4Addr}
 use Rattle.std.specs.declared.net.ip_addr.IpAddr.TheVariants as Ip
 use Rattle.std.specs.declared.net.socket_addr.SocketAddr.{SocketAddr}
 use Rattle.std.specs.declared.net.socket_addr.SocketAddr.TheVariants.{V4, V6}
-use Rattle.feed_link.specs.Told.{Adds}
-use Rattle.feed_link.specs.declared.outside.Address.{Address}
-use Rattle.feed_link.specs.declared.link.Hearing.{Hearing}
-use Rattle.feed_link.specs.declared.link.Hearing.TheVariants.{Datagram, Quiet, End}
+use Rattle.outside_traits.specs.States.{Adds}
+use Rattle.outside_traits.specs.declared.outside.Address.{Address}
+use Rattle.outside_traits.specs.declared.link.Hearing.{Hearing}
+use Rattle.outside_traits.specs.declared.link.Hearing.TheVariants.{Datagram, Quiet, End}
 use Rattle.host_links.specs.declared.udp.Received.{Received}
 use Rattle.host_links.specs.declared.udp.Received.TheVariants.{Answerable, PassedOver, Nothing}
 

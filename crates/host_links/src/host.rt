@@ -1,14 +1,14 @@
 // The host's files and sockets, and the outside that opens them.
 ghost use Rattle.std.specs.Prelude.{◌≡◌, ◌≤◌, ◌∷◌, [], None, false, IfOk, MatchResult};
-ghost use Rattle.feed_link.specs.Faults.{RoseByOne, HasCause};
-ghost use Rattle.feed_link.specs.Openings.{GrowsBy, IsNext, answered, failed};
-ghost use Rattle.feed_link.specs.Openings.Wanted.{LinkAt};
-ghost use Rattle.feed_link.specs.Openings.State.{OfLink};
+ghost use Rattle.outside_traits.specs.Faults.{RoseByOne, HasCause};
+ghost use Rattle.outside_traits.specs.Openings.{GrowsBy, IsNext, answered, failed};
+ghost use Rattle.outside_traits.specs.Openings.Wanted.{LinkAt};
+ghost use Rattle.outside_traits.specs.Openings.State.{OfLink};
 ghost use Rattle.host_links.specs.Real.{host_state, socket_state, file_number};
 
 use crate::udp::Counter;
 use crate::{FileSource, UdpLink};
-use feed_link::{Failed, OpenGate, Outside};
+use outside_traits::{Failed, OpenGate, Outside};
 use std::fs;
 use std::io::{self, ErrorKind};
 use std::net::{IpAddr, Ipv4Addr, Net, SocketAddr, UdpSocket};

@@ -1,4 +1,4 @@
-//! The host's own files, streams and sockets, as the traits of `feed_link` want them.
+//! The host's own files, streams and sockets, as the traits of `outside_traits` want them.
 //!
 //! To read it in this order: `host` (what the host opens), `real` (files and streams), `udp` (sockets).
 #![tactic(auto)]

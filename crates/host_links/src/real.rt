@@ -1,11 +1,11 @@
 // A real file and a real stream. Each counts its faults, and reports nothing of its contents.
 ghost use Rattle.std.specs.Prelude.{◌≡◌, ℕ, ◌<◌, ◌≤◌, None, length, IfOk};
 ghost use Rattle.std.specs.Io.KnownBytes.{ReadConsumes, WriteAppends};
-ghost use Rattle.feed_link.specs.Faults.{HasCause};
-ghost use Rattle.feed_link.specs.Told.{Reads, Writes};
+ghost use Rattle.outside_traits.specs.Faults.{HasCause};
+ghost use Rattle.outside_traits.specs.States.{Reads, Writes};
 ghost use Rattle.host_links.specs.Real.{file_state, file_number, stream_state};
 
-use feed_link::{Failed, Sink, Source};
+use outside_traits::{Failed, Sink, Source};
 use std::io::{ErrorKind, Read, Write};
 
 /// A file, read from its start. It counts its faults and reports nothing of its contents.

@@ -1,12 +1,12 @@
 // A real link: a socket of UDP.
 ghost use Rattle.std.specs.Prelude.{◌≡◌, ℕ, ◌≤◌, ◌/◌, ◌^◌, ◌-◌, min, List, None, Option, length, IfOk, IfSome, MatchOption, MatchResult};
 ghost use Rattle.std.specs.Duration.{as_nanos};
-ghost use Rattle.feed_link.specs.Faults.{RoseByOne, HasCause};
-ghost use Rattle.feed_link.specs.Links.{Hears, IsDeaf, TellsMoment, Sends};
+ghost use Rattle.outside_traits.specs.Faults.{RoseByOne, HasCause};
+ghost use Rattle.outside_traits.specs.Links.{ReceivesNext, IsDeaf, ReportsMoment, Sends};
 ghost use Rattle.host_links.specs.Real.{socket_state, file_number};
 ghost use Rattle.host_links.specs.Sockets.{Passed, Receives, Transmits, Gives, GivesNone, GivesHearing, GivesOnce, PassesOver, IsFor, Posts, Repeats, address_of, is_lost, is_passed_over, is_sent_again, moment_of};
 
-use feed_link::{Address, Arrival, Failed, Hearing, Link};
+use outside_traits::{Address, Arrival, Failed, Hearing, Link};
 use std::io::{self, ErrorKind};
 use std::net::{IpAddr, Ipv4Addr, SocketAddr, UdpSocket};
 use std::time::{Clock, Duration, Instant};
@@ -198,7 +198,7 @@ pub fn receive_once<S: DatagramSocket>(socket: &mut S, piece: &mut [u8]) -> Resu
 // Waits for a datagram that can be answered. Returns its sender and how many bytes of it were received, or None where the
 // socket's time ran out.
 #[tactic(auto, using(crate::proofs::SocketLaws::no_call, crate::proofs::SocketLaws::one_more))]
-fn hear_some<S: DatagramSocket>(
+fn receive_some<S: DatagramSocket>(
     socket: &mut S,
     piece: &mut [u8],
 ) -> Result<Option<(Address, usize)>, Failed>
@@ -297,7 +297,7 @@ impl<R: Clock + Sync, S: DatagramSocket + Send + Drop> Link for UdpLink<'_, R, S
 
     fn hear(&mut self, piece: &mut [u8; 1024]) -> Result<Hearing, Failed>
         ensures heard { MatchResult result
-            (λ hearing. Hears (socket_state self.old.latest self.old.faults)
+            (λ hearing. ReceivesNext (socket_state self.old.latest self.old.faults)
             (socket_state self.new.latest self.new.faults) hearing piece.new)
             (λ _. IsDeaf (socket_state self.old.latest self.old.faults)
             (socket_state self.new.latest self.new.faults)) }
@@ -311,7 +311,7 @@ impl<R: Clock + Sync, S: DatagramSocket + Send + Drop> Link for UdpLink<'_, R, S
         ensures counter { self.new.counter ≡ self.old.counter }
         ensures start { self.new.start ≡ self.old.start }
     {
-        match hear_some(&mut self.socket, piece.as_mut_slice()) {
+        match receive_some(&mut self.socket, piece.as_mut_slice()) {
             Ok(Some((from, length))) => {
                 self.latest = self.now();
                 Ok(Hearing::Datagram(Arrival {
@@ -326,7 +326,7 @@ impl<R: Clock + Sync, S: DatagramSocket + Send + Drop> Link for UdpLink<'_, R, S
     }
 
     fn moment(&mut self) -> Local
-        ensures told { TellsMoment (socket_state self.old.latest self.old.faults)
+        ensures reported { ReportsMoment (socket_state self.old.latest self.old.faults)
             (socket_state self.new.latest self.new.faults) result }
         ensures number { file_number ≡ file_number }
 

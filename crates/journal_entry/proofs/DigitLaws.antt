@@ -26,8 +26,8 @@ pub all_say : (ds : List ℕ) (n : ℕ) → n < 2 ^ 70 → ds ≡ decimal n → 
 all_say ds n small e = ap (digits_value 10) e ∙ (decimal_is_IsNumeral_wide n (omega arith)).1
 
 -- and the first of them say no more
-pub front_says : (ds : List ℕ) (k n : ℕ) → n < 2 ^ 70 → ds ≡ decimal n → digits_value 10 (take k ds) ≤ n
-front_says ds k n small e =
+pub prefix_says : (ds : List ℕ) (k n : ℕ) → n < 2 ^ 70 → ds ≡ decimal n → digits_value 10 (take k ds) ≤ n
+prefix_says ds k n small e =
     let most = digits_value-take-le 10 ds k (omega arith) in
     let all = all_say ds n small e in
     omega arith
@@ -55,13 +55,13 @@ no_space_in_span (pos n) small = no_space n (omega arith)
 no_space_in_span (negsuc n) small = no_space (suc n) (omega arith)
 
 -- a text whose first byte is a sign is that of a negative span, with the digits after it
-pub signed_behind : (text : List ℕ) (z size result : ℤ) → unsigned_abs z < 2 ^ 70 → text ≡ signed_decimal z → get_or text 0 0 ≡ 45 →
+pub signed_after : (text : List ℕ) (z size result : ℤ) → unsigned_abs z < 2 ^ 70 → text ≡ signed_decimal z → get_or text 0 0 ≡ 45 →
     ((n : ℕ) → n < 2 ^ 70 → take (length text - 1) (drop 1 text) ≡ decimal n → size ≡ pos n) → result ≡ neg_ℤ size → result ≡ z
-signed_behind text (pos n) size result small e sign says is =
+signed_after text (pos n) size result small e sign says is =
     let some = decimal_is_IsNumeral_wide n (omega arith) in
     let digit = digit_in text 0 (subst (AllDigits 10) (sym e) some.0.1) (subst (λ (t : List ℕ). 0 < length t) (sym e) some.0.0) in
     let none : digit_value 45 < 10 = subst (λ b. digit_value b < 10) sign digit in
     absurd (omega arith)
-signed_behind text (negsuc n) size result small e sign says is =
+signed_after text (negsuc n) size result small e sign says is =
     let digits = take_rest text 1 ∙ ap (drop 1) e in
     is ∙ ap neg_ℤ (says (suc n) (omega arith) digits)

@@ -30,9 +30,9 @@ ends_at rest field fields place none h e =
       record { joined = take_rest rest (place + 1) ∙ ap (λ k. drop (k + 1) rest) here ∙ ap (drop (length field + 1)) h.joined ∙ drop-append-add field (spaced fields) 1 },
     )
 
-nothing_behind : (field : List ℕ) (fields : List (List ℕ)) → length (field ++ spaced fields) ≤ length field → (field ++ spaced fields ≡ field) × HasFields [] fields
-nothing_behind field [] short = (append-nil field, record { joined = refl })
-nothing_behind field (next ∷ fields) short = absurd (omega (arith, length-append field (spaced (next ∷ fields))))
+nothing_later : (field : List ℕ) (fields : List (List ℕ)) → length (field ++ spaced fields) ≤ length field → (field ++ spaced fields ≡ field) × HasFields [] fields
+nothing_later field [] short = (append-nil field, record { joined = refl })
+nothing_later field (next ∷ fields) short = absurd (omega (arith, length-append field (spaced (next ∷ fields))))
 
 -- at the end
 pub ends_last : (rest field : List ℕ) (fields : List (List ℕ)) → has_space field ≡ false → HasFields rest (field ∷ fields) → position (λ byte. eqb byte 32) rest ≡ None → (rest ≡ field) × HasFields [] fields
@@ -40,5 +40,5 @@ ends_last rest field fields none h e =
     let first = ap (position_or_len (λ byte. eqb byte 32)) h.joined ∙ place_in field fields none in
     let past = ltb-false (position_or_len (λ byte. eqb byte 32) rest) (length rest) (not_found _ (position_or_len (λ byte. eqb byte 32) rest) e) in
     let same = ap length h.joined in
-    let nothing = nothing_behind field fields (omega arith) in
+    let nothing = nothing_later field fields (omega arith) in
     (h.joined ∙ nothing.0, nothing.1)

@@ -13,9 +13,9 @@ use Rattle.journal_entry.specs.declared.line.JournalLine.TheVariants.{Bare, Numb
 use Rattle.journal_entry.specs.declared.numbered.Numbered.{Numbered as NumberedEntry}
 use Rattle.journal_entry.proofs.DigitLaws.{digit_of}
 
-first_of : (front back : List ℕ) → 0 < length front → get_or (front ++ back) 0 0 ≡ get_or front 0 0
+first_of : (prefix back : List ℕ) → 0 < length prefix → get_or (prefix ++ back) 0 0 ≡ get_or prefix 0 0
 first_of [] back some = absurd (omega arith)
-first_of (byte ∷ front) back some = refl
+first_of (byte ∷ prefix) back some = refl
 
 j_is_none : (byte : ℕ) → byte ≡ 106 → digit_value byte < 10 → ⊥
 j_is_none byte e digit = let h : digit_value 106 < 10 = subst (λ b. digit_value b < 10) e digit in omega arith

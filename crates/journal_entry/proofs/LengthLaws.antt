@@ -93,7 +93,7 @@ entry_length e h =
 
 -- a line of a journal has less than 300 bytes
 pub short_text : (text : List ℕ) (line : JournalLine) → IsLineText text line → length text < 300
-short_text text (Bare e) h = let all = ap length h.is in let most = entry_length e h.entry in let front = ap (λ (t : List ℕ). length t) h.is in omega arith
+short_text text (Bare e) h = let all = ap length h.is in let most = entry_length e h.entry in let prefix = ap (λ (t : List ℕ). length t) h.is in omega arith
 short_text text (Numbered n) h =
     let all = ap length (h.is ∙ text_is n) in
     let a = spaced_more (decimal n.length) (signed_decimal n.rate ∷ entry_fields n.entry) in

@@ -2,7 +2,7 @@
 -- line). Then read Lawful (the entries that receivers and pollers make) and Writing (how a text grows in its room). Reading is
 -- scaffolding.
 pub mod Entries
-pub mod Lawful
+pub mod Valid
 pub mod Lines
 pub mod Numbers
 pub mod Reading

@@ -26,7 +26,7 @@ use Rattle.system_fold.specs.Sources.{fit_sources, source_of}
 use Rattle.system_fold.specs.declared.leaps.Leap.{Leap}
 use Rattle.system_fold.specs.declared.leaps.Verdict.{Verdict}
 use Rattle.system_fold.specs.declared.leaps.Word.{Word}
-use Rattle.system_fold.specs.declared.leaps.Word.TheVariants.{Told, Announced}
+use Rattle.system_fold.specs.declared.leaps.Word.TheVariants.{Reported, Announced}
 use Rattle.system_fold.specs.declared.settings.SourceKind.{SourceKind}
 use Rattle.system_fold.specs.declared.source.Source.{Source}
 use Rattle.journal_orders.specs.Orders.{KeepsFeeds, NamesNoLeap, leap_named}
@@ -34,14 +34,14 @@ use Rattle.journal_orders.specs.Orders.{KeepsFeeds, NamesNoLeap, leap_named}
 -- what holds of the entries of each feed holds of all
 pub of_feeds-all : (P : Entry → Type 0) (journal : List Entry) → ((feed : ℕ) → All P (of_feed feed journal)) → All P journal
 of_feeds-all P [] each = All-nil P
-of_feeds-all P (e ∷ journal) each = All-cons P e journal own (of_feeds-all P journal (λ feed. behind (e.feed == feed) (of_feed feed journal) (each feed)))
+of_feeds-all P (e ∷ journal) each = All-cons P e journal own (of_feeds-all P journal (λ feed. later (e.feed == feed) (of_feed feed journal) (each feed)))
   where
     own : P e
     own = All-head P e (of_feed e.feed journal) (subst (λ b. All P (if b then e ∷ of_feed e.feed journal else of_feed e.feed journal)) (eq-eqb e.feed e.feed refl) (each e.feed))
 
-    behind : (b : Bool) (rest : List Entry) → All P (if b then e ∷ rest else rest) → All P rest
-    behind true rest all = All-tail P e rest all
-    behind false rest all = all
+    later : (b : Bool) (rest : List Entry) → All P (if b then e ∷ rest else rest) → All P rest
+    later true rest all = All-tail P e rest all
+    later false rest all = all
 
 -- so it holds of another order of the journal
 pub keeps-all : (P : Entry → Type 0) (a b : List Entry) → KeepsFeeds a b → All P a → All P b
@@ -142,7 +142,7 @@ length-kept a b keeps =
 
 -- an entry that names no leap second has no word with one, whatever the last Verdict is
 no-leap-in : (last : Option Verdict) (at : ℕ) (what : What) → leap_named what ≡ 0 → leap_of last (word_in at what) ≡ None
-no-leap-in last at (Heard (Agreed second leap_at)) none = subst (λ n. leap_of last (Some (Told at second n)) ≡ None) (sym none) refl
+no-leap-in last at (Heard (Agreed second leap_at)) none = subst (λ n. leap_of last (Some (Reported at second n)) ≡ None) (sym none) refl
 no-leap-in last at (Heard (Lone second)) none = refl
 no-leap-in last at (Heard (Differs before now apart)) none = refl
 no-leap-in last at (Heard (Refused rule)) none = refl
@@ -199,12 +199,12 @@ none-passed now last words none = greatest-zero (λ word. passed_by now (leap_of
 prefixes-all : {X : Type 0} (P : X → Type 0) (xs : List X) → All P xs → All (All P) (prefixes xs)
 prefixes-all P [] all = All-cons (All P) [] [] (All-nil P) (All-nil (All P))
 prefixes-all {X} P (x ∷ xs) all =
-    All-cons (All P) [] _ (All-nil P) (All-map (All P) (λ (front : List X). x ∷ front) (prefixes xs) (All-weaker (All P) (λ front. All P (x ∷ front)) (λ front below. All-cons P x front (All-head P x xs all) below) (prefixes xs) (prefixes-all P xs (All-tail P x xs all))))
+    All-cons (All P) [] _ (All-nil P) (All-map (All P) (λ (prefix : List X). x ∷ prefix) (prefixes xs) (All-weaker (All P) (λ prefix. All P (x ∷ prefix)) (λ prefix below. All-cons P x prefix (All-head P x xs all) below) (prefixes xs) (prefixes-all P xs (All-tail P x xs all))))
 
 -- so no sample is cut
 pub cut-none : (journal : List Entry) → NamesNoLeap journal → cut_of journal ≡ 0
 cut-none journal none =
-    greatest-zero passed (prefixes journal) (All-weaker NamesNoLeap (λ front. passed front ≡ 0) (λ front quiet. none-passed (now_of front) (last_verdict front) (words_of front) (no-leap-words (last_verdict front) front quiet)) (prefixes journal) (prefixes-all (λ (e : Entry). leap_named e.what ≡ 0) journal none))
+    greatest-zero passed (prefixes journal) (All-weaker NamesNoLeap (λ prefix. passed prefix ≡ 0) (λ prefix quiet. none-passed (now_of prefix) (last_verdict prefix) (words_of prefix) (no-leap-words (last_verdict prefix) prefix quiet)) (prefixes journal) (prefixes-all (λ (e : Entry). leap_named e.what ≡ 0) journal none))
 
 pub armed-none : (journal : List Entry) → NamesNoLeap journal → armed_of journal ≡ None
 armed-none journal none = none-armed (now_of journal) (last_verdict journal) (words_of journal) (no-leap-words (last_verdict journal) journal none)

@@ -7,7 +7,7 @@ use Rattle.std.proofs.lemmas.List.{append-nil, map-append}
 use Rattle.tick_units.specs.Log.{lines_of}
 use Rattle.leap_file.specs.declared.row.Row.{Row}
 use Rattle.leap_file.specs.Lines.{line_says}
-use Rattle.leap_file.specs.Rows.{bad_behind, bad_line, leap_seconds, rows, rows_behind}
+use Rattle.leap_file.specs.Rows.{bad_after, bad_line, leap_seconds, rows, rows_after}
 use Rattle.leap_file.proofs.RowLaws.{goes_on}
 use Rattle.leap_file.proofs.ReaderLaws.{says, seconds_of, says_more, says_end, says_whole, kept}
 
@@ -37,15 +37,15 @@ grows_end : (bytes : List ℕ) (bad : Option ℕ) → bad_line false bytes ≡ b
 grows_end bytes (Some line) h = ([], (kept bytes 10 line h).seconds ∙ sym (append-nil (leap_seconds false bytes)))
 grows_end bytes None h =
     let on = goes_on None 1 (says bytes) (line_says (lines_of bytes).unfinished) h in
-    let longer = seconds_longer (rows false bytes) (rows_behind (last_or None (rows false bytes)) (line_says (lines_of bytes).unfinished ∷ [])) in
-    (longer.0, ap (λ l. seconds_of (rows_behind None l)) (says_end bytes) ∙ ap seconds_of on.rows ∙ longer.1)
+    let longer = seconds_longer (rows false bytes) (rows_after (last_or None (rows false bytes)) (line_says (lines_of bytes).unfinished ∷ [])) in
+    (longer.0, ap (λ l. seconds_of (rows_after None l)) (says_end bytes) ∙ ap seconds_of on.rows ∙ longer.1)
 
 grows_one : (bytes : List ℕ) (byte : ℕ) → Grows (leap_seconds false (bytes ++ byte ∷ [])) (leap_seconds false bytes)
 grows_one bytes byte = elim (cases_Bool (eqb byte 10)) [
   | inl feed ↦
       let end = grows_end bytes (bad_line false bytes) refl in
       (end.0, ap (λ (b : ℕ). leap_seconds false (bytes ++ b ∷ [])) (eqb-true byte 10 feed) ∙ end.1)
-  | inr other ↦ ([], ap (λ l. seconds_of (rows_behind None l)) (says_more bytes byte other) ∙ sym (append-nil (leap_seconds false bytes)))
+  | inr other ↦ ([], ap (λ l. seconds_of (rows_after None l)) (says_more bytes byte other) ∙ sym (append-nil (leap_seconds false bytes)))
 ]
 
 pub grows : (bytes more : List ℕ) → Grows (leap_seconds false (bytes ++ more)) (leap_seconds false bytes)
@@ -58,7 +58,7 @@ grows bytes (byte ∷ more) =
 
 -- at the end of the file it is as with a line feed more
 pub whole_is : (bytes : List ℕ) → leap_seconds true bytes ≡ leap_seconds false (bytes ++ 10 ∷ [])
-whole_is bytes = ap (λ l. seconds_of (rows_behind None l)) (says_whole bytes)
+whole_is bytes = ap (λ l. seconds_of (rows_after None l)) (says_whole bytes)
 
 pub bad_whole_is : (bytes : List ℕ) → bad_line true bytes ≡ bad_line false (bytes ++ 10 ∷ [])
-bad_whole_is bytes = ap (bad_behind None 1) (says_whole bytes)
+bad_whole_is bytes = ap (bad_after None 1) (says_whole bytes)

@@ -12,7 +12,7 @@ use Rattle.leap_file.specs.declared.reader.BadLeap.{BadLeap}
 use Rattle.leap_file.specs.declared.reader.LeapReader.{LeapReader}
 use Rattle.leap_file.specs.declared.row.Row.{Row}
 use Rattle.leap_file.specs.Lines.{line_says}
-use Rattle.leap_file.specs.Rows.{bad_behind, bad_line, leap_seconds, lines_read, may_stand, rows, rows_behind}
+use Rattle.leap_file.specs.Rows.{bad_after, bad_line, leap_seconds, lines_read, may_stand, rows, rows_after}
 use Rattle.leap_file.specs.Reading.{IsLine, HasRead, Takes, Finishes, AddsRow, counted}
 use Rattle.leap_file.proofs.RowLaws.{bad_stays, goes_on, last_push, second_push}
 
@@ -59,8 +59,8 @@ kept bytes byte number h = elim (cases_Bool (eqb byte 10)) [
   | inl feed ↦
       let stays = bad_stays None 1 (says bytes) (line_says (lines_of bytes).unfinished) number h in
       subst (λ b. Kept bytes b number) (sym (eqb-true byte 10 feed))
-      (record { bad = ap (bad_behind None 1) (says_end bytes) ∙ stays.stays; seconds = ap (λ l. seconds_of (rows_behind None l)) (says_end bytes) ∙ ap seconds_of stays.rows })
-  | inr other ↦ record { bad = ap (bad_behind None 1) (says_more bytes byte other) ∙ h; seconds = ap (λ l. seconds_of (rows_behind None l)) (says_more bytes byte other) }
+      (record { bad = ap (bad_after None 1) (says_end bytes) ∙ stays.stays; seconds = ap (λ l. seconds_of (rows_after None l)) (says_end bytes) ∙ ap seconds_of stays.rows })
+  | inr other ↦ record { bad = ap (bad_after None 1) (says_more bytes byte other) ∙ h; seconds = ap (λ l. seconds_of (rows_after None l)) (says_more bytes byte other) }
 ]
 
 -- a reader of a file with a bad line
@@ -85,15 +85,15 @@ pub line_on : (old new : LeapReader) (bytes : List ℕ) (byte : ℕ) → HasRead
 line_on old new bytes byte h none other line lines before still =
     let same = says_more bytes byte other in
     let longer = lines_more bytes byte other in
-    let next : bad_line false (bytes ++ byte ∷ []) ≡ None = ap (bad_behind None 1) same ∙ fine old bytes h none in
+    let next : bad_line false (bytes ++ byte ∷ []) ≡ None = ap (bad_after None 1) same ∙ fine old bytes h none in
     record {
       read = record {
         bad = ap (option_map (λ b. b.line)) still ∙ sym (ap (option_map counted) next);
         line = λ _. subst (IsLine new.line) (sym (ap (λ (l : Lines). l.unfinished) longer)) (line (lines_of bytes).unfinished (h.line none));
         lines = λ _. lines ∙ h.lines none ∙ sym (ap (λ (l : Lines). counted (length l.complete)) longer);
-        before = λ _. before ∙ h.before none ∙ sym (ap (λ l. last_or None (rows_behind None l)) same);
+        before = λ _. before ∙ h.before none ∙ sym (ap (λ l. last_or None (rows_after None l)) same);
       };
-      found = (next, ap (λ l. seconds_of (rows_behind None l)) same ∙ sym (append-nil (leap_seconds false bytes)));
+      found = (next, ap (λ l. seconds_of (rows_after None l)) same ∙ sym (append-nil (leap_seconds false bytes)));
     }
 
 -- what the end of a line adds
@@ -101,16 +101,16 @@ abbrev last_row : List ℕ → Option Row
 last_row bytes = last_or None (rows false bytes)
 
 record Ended (bytes : List ℕ) (line : LeapLine) : Type 0 where
-  bad : bad_line false (bytes ++ 10 ∷ []) ≡ bad_behind (last_row bytes) (1 + length (lines_of bytes).complete) (line ∷ [])
-  rows_now : rows false (bytes ++ 10 ∷ []) ≡ rows false bytes ++ rows_behind (last_row bytes) (line ∷ [])
+  bad : bad_line false (bytes ++ 10 ∷ []) ≡ bad_after (last_row bytes) (1 + length (lines_of bytes).complete) (line ∷ [])
+  rows_now : rows false (bytes ++ 10 ∷ []) ≡ rows false bytes ++ rows_after (last_row bytes) (line ∷ [])
 
 ended : (bytes : List ℕ) (line : LeapLine) → bad_line false bytes ≡ None → line ≡ line_says (lines_of bytes).unfinished → Ended bytes line
 ended bytes line good is =
     let on = goes_on None 1 (says bytes) (line_says (lines_of bytes).unfinished) good in
     let count : length (says bytes) ≡ length (lines_of bytes).complete = length-map (lines_of bytes).complete line_says in
     record {
-      bad = subst (λ l. bad_line false (bytes ++ 10 ∷ []) ≡ bad_behind (last_row bytes) (1 + length (lines_of bytes).complete) (l ∷ [])) (sym is) (ap (bad_behind None 1) (says_end bytes) ∙ on.bad ∙ ap (λ (n : ℕ). bad_behind (last_row bytes) (1 + n) (line_says (lines_of bytes).unfinished ∷ [])) count);
-      rows_now = subst (λ l. rows false (bytes ++ 10 ∷ []) ≡ rows false bytes ++ rows_behind (last_row bytes) (l ∷ [])) (sym is) (ap (rows_behind None) (says_end bytes) ∙ on.rows);
+      bad = subst (λ l. bad_line false (bytes ++ 10 ∷ []) ≡ bad_after (last_row bytes) (1 + length (lines_of bytes).complete) (l ∷ [])) (sym is) (ap (bad_after None 1) (says_end bytes) ∙ on.bad ∙ ap (λ (n : ℕ). bad_after (last_row bytes) (1 + n) (line_says (lines_of bytes).unfinished ∷ [])) count);
+      rows_now = subst (λ l. rows false (bytes ++ 10 ∷ []) ≡ rows false bytes ++ rows_after (last_row bytes) (l ∷ [])) (sym is) (ap (rows_after None) (says_end bytes) ∙ on.rows);
     }
 
 counted_more : (n m : ℕ) → n ≡ counted m → counted (n + 1) ≡ counted (m + 1)
@@ -140,7 +140,7 @@ ends_nothing old new bytes h none is line lines before still =
 
 -- a line that ends and is bad
 pub ends_badly : (old new : LeapReader) (bytes : List ℕ) (line : LeapLine) (bad : BadLeap) → HasRead old bytes → old.bad ≡ None → line ≡ line_says (lines_of bytes).unfinished →
-    bad_behind (last_row bytes) (1 + length (lines_of bytes).complete) (line ∷ []) ≡ Some (1 + length (lines_of bytes).complete) → rows_behind (last_row bytes) (line ∷ []) ≡ [] →
+    bad_after (last_row bytes) (1 + length (lines_of bytes).complete) (line ∷ []) ≡ Some (1 + length (lines_of bytes).complete) → rows_after (last_row bytes) (line ∷ []) ≡ [] →
     new.bad ≡ Some bad → bad.line ≡ counted (old.lines + 1) → Takes new bytes 10 (Err bad)
 ends_badly old new bytes line bad h none is is_bad no_row was number =
     let e = ended bytes line (fine old bytes h none) is in
@@ -154,10 +154,10 @@ ends_badly old new bytes line bad h none is is_bad no_row was number =
 ends_row : (old new : LeapReader) (bytes : List ℕ) (row : Row) (found : Option ℕ) → HasRead old bytes → old.bad ≡ None → Numbers row ≡ line_says (lines_of bytes).unfinished →
     may_stand old.before row ≡ true → found ≡ (if is_some old.before then Some row.second else None) →
     IsLine new.line [] → new.lines ≡ counted (old.lines + 1) → new.before ≡ Some row → new.bad ≡ None → Takes new bytes 10 (Ok found)
-ends_row old new bytes row found h none is lawful told line lines before still =
+ends_row old new bytes row found h none is valid reported line lines before still =
     let e = ended bytes (Numbers row) (fine old bytes h none) is in
     let last = h.before none in
-    let may : may_stand (last_row bytes) row ≡ true = subst (λ o. may_stand o row ≡ true) last lawful in
+    let may : may_stand (last_row bytes) row ≡ true = subst (λ o. may_stand o row ≡ true) last valid in
     let more : rows false (bytes ++ 10 ∷ []) ≡ rows false bytes ++ row ∷ [] = e.rows_now ∙ rw may refl in
     let next : bad_line false (bytes ++ 10 ∷ []) ≡ None = e.bad ∙ rw may refl in
     record {
@@ -167,7 +167,7 @@ ends_row old new bytes row found h none is lawful told line lines before still =
         lines = λ _. lines_counted old new bytes h none lines;
         before = λ _. before ∙ sym (ap (last_or None) more ∙ last_push None (rows false bytes) row);
       };
-      found = (next, ap seconds_of more ∙ second_push (rows false bytes) row ∙ ap (λ o. leap_seconds false bytes ++ option_to_list o) (sym (told ∙ ap (λ (o : Option Row). if is_some o then Some row.second else None) last)));
+      found = (next, ap seconds_of more ∙ second_push (rows false bytes) row ∙ ap (λ o. leap_seconds false bytes ++ option_to_list o) (sym (reported ∙ ap (λ (o : Option Row). if is_some o then Some row.second else None) last)));
     }
 
 -- a line that ends and is a row
@@ -185,9 +185,9 @@ ends_numbers old counts new bytes row (Err bad) h none is line lines before stil
 pub finishes : (new : LeapReader) (bytes : List ℕ) (result : Result (Option ℕ) BadLeap) → Takes new bytes 10 result → Finishes new bytes result
 finishes new bytes (Ok found) t = record {
   read = t.read;
-  found = (ap (bad_behind None 1) (says_whole bytes) ∙ t.found.0, ap (λ l. seconds_of (rows_behind None l)) (says_whole bytes) ∙ t.found.1);
+  found = (ap (bad_after None 1) (says_whole bytes) ∙ t.found.0, ap (λ l. seconds_of (rows_after None l)) (says_whole bytes) ∙ t.found.1);
 }
 finishes new bytes (Err bad) t = record {
   read = t.read;
-  found = (ap (λ l. option_map counted (bad_behind None 1 l)) (says_whole bytes) ∙ t.found.0, ap (λ l. seconds_of (rows_behind None l)) (says_whole bytes) ∙ t.found.1);
+  found = (ap (λ l. option_map counted (bad_after None 1 l)) (says_whole bytes) ∙ t.found.0, ap (λ l. seconds_of (rows_after None l)) (says_whole bytes) ∙ t.found.1);
 }

@@ -21,11 +21,11 @@ strip_other text b other = rw (last_place text b, get_or-append_seam text b [] 0
 
 -- how far a line has come without its carriage return, and with it
 pub part_is : (returned : Bool) (part : Part) (text : List ℕ) → EndsIn returned part text → part ≡ part_of (strip_carriage_return text)
-part_is true part text (front, is, so_far) = so_far ∙ ap part_of (sym (ap strip_carriage_return is ∙ strip_return front))
+part_is true part text (leading, is, so_far) = so_far ∙ ap part_of (sym (ap strip_carriage_return is ∙ strip_return leading))
 part_is false part text (is, so_far) = so_far ∙ ap part_of (sym is)
 
 pub whole_is : (returned : Bool) (part : Part) (text : List ℕ) → EndsIn returned part text → (if returned then next part 13 else part) ≡ part_of text
-whole_is true part text (front, is, so_far) = ap (λ p. next p 13) so_far ∙ sym (fold-append next Start front (13 ∷ [])) ∙ ap part_of (sym is)
+whole_is true part text (leading, is, so_far) = ap (λ p. next p 13) so_far ∙ sym (fold-append next Start leading (13 ∷ [])) ∙ ap part_of (sym is)
 whole_is false part text (is, so_far) = so_far
 
 pub part_push : (text : List ℕ) (b : ℕ) → part_of (text ++ b ∷ []) ≡ next (part_of text) b

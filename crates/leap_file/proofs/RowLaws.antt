@@ -7,14 +7,14 @@ use Rattle.std.proofs.lemmas.List.{map_push}
 use Rattle.leap_file.specs.declared.part.LeapLine.{LeapLine}
 use Rattle.leap_file.specs.declared.part.LeapLine.TheVariants.{Nothing, Numbers, Bad}
 use Rattle.leap_file.specs.declared.row.Row.{Row}
-use Rattle.leap_file.specs.Rows.{may_stand, rows_behind, bad_behind}
+use Rattle.leap_file.specs.Rows.{may_stand, rows_after, bad_after}
 
 -- a bad line stays, and no more rows come after it
 pub record Stays (before : Option Row) (number : ℕ) (lines : List LeapLine) (line : LeapLine) (bad : ℕ) : Type 0 where
-  pub stays : bad_behind before number (lines ++ line ∷ []) ≡ Some bad
-  pub rows : rows_behind before (lines ++ line ∷ []) ≡ rows_behind before lines
+  pub stays : bad_after before number (lines ++ line ∷ []) ≡ Some bad
+  pub rows : rows_after before (lines ++ line ∷ []) ≡ rows_after before lines
 
-pub bad_stays : (before : Option Row) (number : ℕ) (lines : List LeapLine) (line : LeapLine) (bad : ℕ) → bad_behind before number lines ≡ Some bad → Stays before number lines line bad
+pub bad_stays : (before : Option Row) (number : ℕ) (lines : List LeapLine) (line : LeapLine) (bad : ℕ) → bad_after before number lines ≡ Some bad → Stays before number lines line bad
 bad_stays before number [] line bad h = cc
 bad_stays before number (Nothing ∷ more) line bad h = let on = bad_stays before (number + 1) more line bad h in record { stays = on.stays; rows = on.rows }
 bad_stays before number (Bad ∷ more) line bad h = record { stays = h; rows = refl }
@@ -25,10 +25,10 @@ bad_stays before number (Numbers row ∷ more) line bad h = elim (cases_Bool (ma
 
 -- lines of which none is bad go on after their last row
 pub record GoesOn (before : Option Row) (number : ℕ) (lines : List LeapLine) (line : LeapLine) : Type 0 where
-  pub bad : bad_behind before number (lines ++ line ∷ []) ≡ bad_behind (last_or before (rows_behind before lines)) (number + length lines) (line ∷ [])
-  pub rows : rows_behind before (lines ++ line ∷ []) ≡ rows_behind before lines ++ rows_behind (last_or before (rows_behind before lines)) (line ∷ [])
+  pub bad : bad_after before number (lines ++ line ∷ []) ≡ bad_after (last_or before (rows_after before lines)) (number + length lines) (line ∷ [])
+  pub rows : rows_after before (lines ++ line ∷ []) ≡ rows_after before lines ++ rows_after (last_or before (rows_after before lines)) (line ∷ [])
 
-pub goes_on : (before : Option Row) (number : ℕ) (lines : List LeapLine) (line : LeapLine) → bad_behind before number lines ≡ None → GoesOn before number lines line
+pub goes_on : (before : Option Row) (number : ℕ) (lines : List LeapLine) (line : LeapLine) → bad_after before number lines ≡ None → GoesOn before number lines line
 goes_on before number [] line h = let same : number + 0 ≡ number = omega arith in record { bad = rw same refl; rows = refl }
 goes_on before number (Nothing ∷ more) line h =
     let on = goes_on before (number + 1) more line h in

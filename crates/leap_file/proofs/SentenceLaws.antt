@@ -9,41 +9,41 @@ use Rattle.std.proofs.lemmas.List.{append-nil}
 use Rattle.leap_file.specs.declared.part.LeapLine.{LeapLine}
 use Rattle.leap_file.specs.declared.part.LeapLine.TheVariants.{Nothing, Numbers, Bad}
 use Rattle.leap_file.specs.declared.row.Row.{Row}
-use Rattle.leap_file.specs.Lines.{is_blank, is_hash, begins, says_nothing, IsNumber, IsEnd, IsRow, IsSaid, front, behind, is_empty, is_short, is_end, row_from, row_of, said}
+use Rattle.leap_file.specs.Lines.{is_blank, is_hash, begins, says_nothing, IsNumber, IsEnd, IsRow, IsSaid, leading, past, is_empty, is_short, is_end, row_from, row_of, said}
 
 -- a beginning that passes, and what does not begin so
-pub front_is : (test : ℕ → Bool) (xs rest : List ℕ) → list_all test xs ≡ true → begins test rest ≡ false → front test (xs ++ rest) ≡ xs
-front_is test [] [] all none = refl
-front_is test [] (b ∷ rest) all none = rw none refl
-front_is test (x ∷ xs) rest all none =
+pub leading_is : (test : ℕ → Bool) (xs rest : List ℕ) → list_all test xs ≡ true → begins test rest ≡ false → leading test (xs ++ rest) ≡ xs
+leading_is test [] [] all none = refl
+leading_is test [] (b ∷ rest) all none = rw none refl
+leading_is test (x ∷ xs) rest all none =
     let parts = and_parts (test x) (list_all test xs) all in
-    rw parts.0 (ap (λ (l : List ℕ). x ∷ l) (front_is test xs rest parts.1 none))
+    rw parts.0 (ap (λ (l : List ℕ). x ∷ l) (leading_is test xs rest parts.1 none))
 
-pub behind_is : (test : ℕ → Bool) (xs rest : List ℕ) → list_all test xs ≡ true → begins test rest ≡ false → behind test (xs ++ rest) ≡ rest
-behind_is test [] [] all none = refl
-behind_is test [] (b ∷ rest) all none = rw none refl
-behind_is test (x ∷ xs) rest all none =
+pub past_is : (test : ℕ → Bool) (xs rest : List ℕ) → list_all test xs ≡ true → begins test rest ≡ false → past test (xs ++ rest) ≡ rest
+past_is test [] [] all none = refl
+past_is test [] (b ∷ rest) all none = rw none refl
+past_is test (x ∷ xs) rest all none =
     let parts = and_parts (test x) (list_all test xs) all in
-    rw parts.0 (behind_is test xs rest parts.1 none)
+    rw parts.0 (past_is test xs rest parts.1 none)
 
 -- the two make the text
-split : (test : ℕ → Bool) (text : List ℕ) → front test text ++ behind test text ≡ text
+split : (test : ℕ → Bool) (text : List ℕ) → leading test text ++ past test text ≡ text
 split test [] = refl
 split test (b ∷ text) = elim (cases_Bool (test b)) [
   | inl passes ↦ rw passes (ap (λ (l : List ℕ). b ∷ l) (split test text))
   | inr fails ↦ rw fails refl
 ]
 
-all_front : (test : ℕ → Bool) (text : List ℕ) → list_all test (front test text) ≡ true
-all_front test [] = refl
-all_front test (b ∷ text) = elim (cases_Bool (test b)) [
-  | inl passes ↦ rw (passes, passes) (all_front test text)
+all_leading : (test : ℕ → Bool) (text : List ℕ) → list_all test (leading test text) ≡ true
+all_leading test [] = refl
+all_leading test (b ∷ text) = elim (cases_Bool (test b)) [
+  | inl passes ↦ rw (passes, passes) (all_leading test text)
   | inr fails ↦ rw fails refl
 ]
 
-some_front : (test : ℕ → Bool) (text : List ℕ) → begins test text ≡ true → 1 ≤ length (front test text)
-some_front test [] begins_so = cc
-some_front test (b ∷ text) begins_so = rw begins_so (omega arith)
+some_leading : (test : ℕ → Bool) (text : List ℕ) → begins test text ≡ true → 1 ≤ length (leading test text)
+some_leading test [] begins_so = cc
+some_leading test (b ∷ text) begins_so = rw begins_so (omega arith)
 
 -- bytes of one kind are of no other
 blank_no_digit : (b : ℕ) → is_blank b ≡ true → is_ascii_digit b ≡ false
@@ -76,10 +76,10 @@ short_is most text some few = both_true (nat_le 1 (length text)) (nat_le (length
 -- an end is read as one
 end_is : (text : List ℕ) → IsEnd text → is_end text ≡ true
 end_is text (inl blank) =
-    let none : behind is_blank text ≡ [] = subst (λ t. behind is_blank t ≡ []) (append-nil text) (behind_is is_blank text [] blank refl) in
+    let none : past is_blank text ≡ [] = subst (λ t. past is_blank t ≡ []) (append-nil text) (past_is is_blank text [] blank refl) in
     rw none refl
 end_is text (inr r) =
-    let on = behind_is is_blank r.blanks (35 ∷ r.remark) r.are_blanks.blank refl in
+    let on = past_is is_blank r.blanks (35 ∷ r.remark) r.are_blanks.blank refl in
     let starts = begins_so is_blank r.blanks (35 ∷ r.remark) r.are_blanks.blank r.are_blanks.least in
     subst (λ t. is_end t ≡ true) (sym r.parts) (rw (on, starts) refl)
 
@@ -92,10 +92,10 @@ end_no_digit text (inr r) = subst (λ t. begins is_ascii_digit t ≡ false) (sym
 from_is : (second : ℕ) (dtai end : List ℕ) (number : ℕ) → IsNumber 3 dtai number → IsEnd end → row_from second (dtai ++ end) ≡ Numbers (record { second = second; dtai = number })
 from_is second dtai end number n e =
     let stop = end_no_digit end e in
-    let digits = front_is is_ascii_digit dtai end n.digits stop in
-    let after = behind_is is_ascii_digit dtai end n.digits stop in
-    let short : is_short 3 (front is_ascii_digit (dtai ++ end)) ≡ true = subst (λ l. is_short 3 l ≡ true) (sym digits) (short_is 3 dtai n.least n.most) in
-    let ends : is_end (behind is_ascii_digit (dtai ++ end)) ≡ true = subst (λ l. is_end l ≡ true) (sym after) (end_is end e) in
+    let digits = leading_is is_ascii_digit dtai end n.digits stop in
+    let after = past_is is_ascii_digit dtai end n.digits stop in
+    let short : is_short 3 (leading is_ascii_digit (dtai ++ end)) ≡ true = subst (λ l. is_short 3 l ≡ true) (sym digits) (short_is 3 dtai n.least n.most) in
+    let ends : is_end (past is_ascii_digit (dtai ++ end)) ≡ true = subst (λ l. is_end l ≡ true) (sym after) (end_is end e) in
     then_is _ _ _ (both_true _ _ short ends) ∙ ap (λ d. Numbers (record { second = second; dtai = d })) (ap (digits_value 10) digits ∙ sym n.value)
 
 -- a row is read as that row
@@ -104,13 +104,13 @@ row_is line row h =
     let after_gap = h.dtai ++ h.end in
     let stop = begins_first is_ascii_digit is_blank h.dtai h.end digit_no_blank h.is_dtai.digits h.is_dtai.least in
     let no_digit = begins_first is_blank is_ascii_digit h.gap after_gap blank_no_digit h.is_gap.blank h.is_gap.least in
-    let digits = front_is is_ascii_digit h.second (h.gap ++ after_gap) h.is_second.digits no_digit in
-    let after = behind_is is_ascii_digit h.second (h.gap ++ after_gap) h.is_second.digits no_digit in
+    let digits = leading_is is_ascii_digit h.second (h.gap ++ after_gap) h.is_second.digits no_digit in
+    let after = past_is is_ascii_digit h.second (h.gap ++ after_gap) h.is_second.digits no_digit in
     let text = h.second ++ (h.gap ++ after_gap) in
-    let short : is_short 10 (front is_ascii_digit text) ≡ true = subst (λ l. is_short 10 l ≡ true) (sym digits) (short_is 10 h.second h.is_second.least h.is_second.most) in
-    let gap : begins is_blank (behind is_ascii_digit text) ≡ true = subst (λ l. begins is_blank l ≡ true) (sym after) (begins_so is_blank h.gap after_gap h.is_gap.blank h.is_gap.least) in
-    let rest : behind is_blank (behind is_ascii_digit text) ≡ after_gap = ap (behind is_blank) after ∙ behind_is is_blank h.gap after_gap h.is_gap.blank stop in
-    let value : digits_value 10 (front is_ascii_digit text) ≡ row.second = ap (digits_value 10) digits ∙ sym h.is_second.value in
+    let short : is_short 10 (leading is_ascii_digit text) ≡ true = subst (λ l. is_short 10 l ≡ true) (sym digits) (short_is 10 h.second h.is_second.least h.is_second.most) in
+    let gap : begins is_blank (past is_ascii_digit text) ≡ true = subst (λ l. begins is_blank l ≡ true) (sym after) (begins_so is_blank h.gap after_gap h.is_gap.blank h.is_gap.least) in
+    let rest : past is_blank (past is_ascii_digit text) ≡ after_gap = ap (past is_blank) after ∙ past_is is_blank h.gap after_gap h.is_gap.blank stop in
+    let value : digits_value 10 (leading is_ascii_digit text) ≡ row.second = ap (digits_value 10) digits ∙ sym h.is_second.value in
     ap row_of h.parts ∙ then_is _ _ _ (both_true _ _ short gap) ∙ (λ i. row_from (value i) (rest i)) ∙ from_is row.second h.dtai h.end row.dtai h.is_dtai h.is_end
 
 -- what is read as an end is one
@@ -123,26 +123,26 @@ no_more [] h = refl
 no_more (b ∷ text) h = cc
 
 end_of : (text : List ℕ) → is_end text ≡ true → IsEnd text
-end_of text h = elim (cases_Bool (is_empty (behind is_blank text))) [
+end_of text h = elim (cases_Bool (is_empty (past is_blank text))) [
   | inl empty ↦
-      let all = ap (λ l. front is_blank text ++ l) (sym (no_more (behind is_blank text) empty)) ∙ split is_blank text in
-      inl (subst (λ t. list_all is_blank t ≡ true) (sym (append-nil (front is_blank text)) ∙ all) (all_front is_blank text))
+      let all = ap (λ l. leading is_blank text ++ l) (sym (no_more (past is_blank text) empty)) ∙ split is_blank text in
+      inl (subst (λ t. list_all is_blank t ≡ true) (sym (append-nil (leading is_blank text)) ∙ all) (all_leading is_blank text))
   | inr some ↦
-      let tests : (begins is_blank text && begins is_hash (behind is_blank text)) ≡ true = rw some at h in
-      let parts = and_parts (begins is_blank text) (begins is_hash (behind is_blank text)) tests in
-      let hash = hash_first (behind is_blank text) parts.1 in
+      let tests : (begins is_blank text && begins is_hash (past is_blank text)) ≡ true = rw some at h in
+      let parts = and_parts (begins is_blank text) (begins is_hash (past is_blank text)) tests in
+      let hash = hash_first (past is_blank text) parts.1 in
       inr (record {
-        blanks = front is_blank text;
+        blanks = leading is_blank text;
         remark = hash.0;
-        parts = sym (split is_blank text) ∙ ap (λ l. front is_blank text ++ l) hash.1;
-        are_blanks = record { blank = all_front is_blank text; least = some_front is_blank text parts.0 };
+        parts = sym (split is_blank text) ∙ ap (λ l. leading is_blank text ++ l) hash.1;
+        are_blanks = record { blank = all_leading is_blank text; least = some_leading is_blank text parts.0 };
       })
 ]
 
-number_of : (most : ℕ) (text : List ℕ) → is_short most (front is_ascii_digit text) ≡ true → IsNumber most (front is_ascii_digit text) (digits_value 10 (front is_ascii_digit text))
+number_of : (most : ℕ) (text : List ℕ) → is_short most (leading is_ascii_digit text) ≡ true → IsNumber most (leading is_ascii_digit text) (digits_value 10 (leading is_ascii_digit text))
 number_of most text h =
-    let parts = and_parts (nat_le 1 (length (front is_ascii_digit text))) (nat_le (length (front is_ascii_digit text)) most) h in
-    record { digits = all_front is_ascii_digit text; least = leb-true 1 _ parts.0; most = leb-true _ most parts.1; value = refl }
+    let parts = and_parts (nat_le 1 (length (leading is_ascii_digit text))) (nat_le (length (leading is_ascii_digit text)) most) h in
+    record { digits = all_leading is_ascii_digit text; least = leb-true 1 _ parts.0; most = leb-true _ most parts.1; value = refl }
 
 -- what is read as a row is that row
 abbrev row_in : Row → LeapLine → Row
@@ -151,31 +151,31 @@ row_in other (Numbers row) = row
 row_in other Bad = other
 
 abbrev rest_of : List ℕ → List ℕ
-rest_of line = behind is_blank (behind is_ascii_digit line)
+rest_of line = past is_blank (past is_ascii_digit line)
 
 abbrev read_row : List ℕ → Row
-read_row line = record { second = digits_value 10 (front is_ascii_digit line); dtai = digits_value 10 (front is_ascii_digit (rest_of line)) }
+read_row line = record { second = digits_value 10 (leading is_ascii_digit line); dtai = digits_value 10 (leading is_ascii_digit (rest_of line)) }
 
 -- the tests of a reading
 record IsRead (line : List ℕ) : Type 0 where
-  first : (is_short 10 (front is_ascii_digit line) && begins is_blank (behind is_ascii_digit line)) ≡ true
-  last : (is_short 3 (front is_ascii_digit (rest_of line)) && is_end (behind is_ascii_digit (rest_of line))) ≡ true
+  first : (is_short 10 (leading is_ascii_digit line) && begins is_blank (past is_ascii_digit line)) ≡ true
+  last : (is_short 3 (leading is_ascii_digit (rest_of line)) && is_end (past is_ascii_digit (rest_of line))) ≡ true
 
 read_is : (line : List ℕ) → IsRead line → IsRow line (read_row line)
 read_is line h =
-    let first = and_parts (is_short 10 (front is_ascii_digit line)) (begins is_blank (behind is_ascii_digit line)) h.first in
-    let last = and_parts (is_short 3 (front is_ascii_digit (rest_of line))) (is_end (behind is_ascii_digit (rest_of line))) h.last in
+    let first = and_parts (is_short 10 (leading is_ascii_digit line)) (begins is_blank (past is_ascii_digit line)) h.first in
+    let last = and_parts (is_short 3 (leading is_ascii_digit (rest_of line))) (is_end (past is_ascii_digit (rest_of line))) h.last in
     record {
-      second = front is_ascii_digit line;
-      gap = front is_blank (behind is_ascii_digit line);
-      dtai = front is_ascii_digit (rest_of line);
-      end = behind is_ascii_digit (rest_of line);
-      parts = sym (split is_ascii_digit line) ∙ ap (λ l. front is_ascii_digit line ++ l)
-          (sym (split is_blank (behind is_ascii_digit line)) ∙ ap (λ l. front is_blank (behind is_ascii_digit line) ++ l) (sym (split is_ascii_digit (rest_of line))));
+      second = leading is_ascii_digit line;
+      gap = leading is_blank (past is_ascii_digit line);
+      dtai = leading is_ascii_digit (rest_of line);
+      end = past is_ascii_digit (rest_of line);
+      parts = sym (split is_ascii_digit line) ∙ ap (λ l. leading is_ascii_digit line ++ l)
+          (sym (split is_blank (past is_ascii_digit line)) ∙ ap (λ l. leading is_blank (past is_ascii_digit line) ++ l) (sym (split is_ascii_digit (rest_of line))));
       is_second = number_of 10 line first.0;
-      is_gap = record { blank = all_front is_blank (behind is_ascii_digit line); least = some_front is_blank (behind is_ascii_digit line) first.1 };
+      is_gap = record { blank = all_leading is_blank (past is_ascii_digit line); least = some_leading is_blank (past is_ascii_digit line) first.1 };
       is_dtai = number_of 3 (rest_of line) last.0;
-      is_end = end_of (behind is_ascii_digit (rest_of line)) last.1;
+      is_end = end_of (past is_ascii_digit (rest_of line)) last.1;
     }
 
 -- a line is read as a row, or as a bad one
@@ -183,8 +183,8 @@ abbrev AreRead : List ℕ → LeapLine → Type 0
 AreRead line x = (IsRead line × (x ≡ Numbers (read_row line))) ⊎ (x ≡ Bad)
 
 readings : (line : List ℕ) → AreRead line (row_of line)
-readings line = elim (cases_Bool (is_short 10 (front is_ascii_digit line) && begins is_blank (behind is_ascii_digit line))) [
-  | inl first ↦ elim (cases_Bool (is_short 3 (front is_ascii_digit (rest_of line)) && is_end (behind is_ascii_digit (rest_of line)))) [
+readings line = elim (cases_Bool (is_short 10 (leading is_ascii_digit line) && begins is_blank (past is_ascii_digit line))) [
+  | inl first ↦ elim (cases_Bool (is_short 3 (leading is_ascii_digit (rest_of line)) && is_end (past is_ascii_digit (rest_of line)))) [
     | inl last ↦ inl (record { first = first; last = last }, then_is _ _ _ first ∙ then_is _ _ _ last)
     | inr no_last ↦ inr (then_is _ _ _ first ∙ else_is _ _ _ no_last)
   ]

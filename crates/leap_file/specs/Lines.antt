@@ -65,13 +65,13 @@ IsSaid line (Numbers row) = IsRow line row
 IsSaid line Bad = (says_nothing line ≡ false) × ((row : Row) → IsRow line row → ⊥)
 
 -- the longest prefix whose bytes pass, and the bytes after it
-abbrev pub front : (ℕ → Bool) → List ℕ → List ℕ
-front test [] = []
-front test (byte ∷ text) = if test byte then byte ∷ front test text else []
+abbrev pub leading : (ℕ → Bool) → List ℕ → List ℕ
+leading test [] = []
+leading test (byte ∷ text) = if test byte then byte ∷ leading test text else []
 
-abbrev pub behind : (ℕ → Bool) → List ℕ → List ℕ
-behind test [] = []
-behind test (byte ∷ text) = if test byte then behind test text else byte ∷ text
+abbrev pub past : (ℕ → Bool) → List ℕ → List ℕ
+past test [] = []
+past test (byte ∷ text) = if test byte then past test text else byte ∷ text
 
 abbrev pub is_empty : List ℕ → Bool
 is_empty [] = true
@@ -82,18 +82,18 @@ abbrev pub is_short : ℕ → List ℕ → Bool
 is_short most text = nat_le 1 (length text) && nat_le (length text) most
 
 abbrev pub is_end : List ℕ → Bool
-is_end text = is_empty (behind is_blank text) || (begins is_blank text && begins is_hash (behind is_blank text))
+is_end text = is_empty (past is_blank text) || (begins is_blank text && begins is_hash (past is_blank text))
 
 -- a row from its second number on
 abbrev pub row_from : ℕ → List ℕ → LeapLine
-row_from second text = if is_short 3 (front is_ascii_digit text) && is_end (behind is_ascii_digit text)
-    then Numbers (record { second = second; dtai = digits_value 10 (front is_ascii_digit text) })
+row_from second text = if is_short 3 (leading is_ascii_digit text) && is_end (past is_ascii_digit text)
+    then Numbers (record { second = second; dtai = digits_value 10 (leading is_ascii_digit text) })
     else Bad
 
 -- the one row that a line is, or Bad
 abbrev pub row_of : List ℕ → LeapLine
-row_of line = if is_short 10 (front is_ascii_digit line) && begins is_blank (behind is_ascii_digit line)
-    then row_from (digits_value 10 (front is_ascii_digit line)) (behind is_blank (behind is_ascii_digit line))
+row_of line = if is_short 10 (leading is_ascii_digit line) && begins is_blank (past is_ascii_digit line)
+    then row_from (digits_value 10 (leading is_ascii_digit line)) (past is_blank (past is_ascii_digit line))
     else Bad
 
 -- the one thing that a line says (`IsSaid`)

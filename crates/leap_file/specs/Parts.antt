@@ -6,7 +6,7 @@ use Rattle.leap_file.specs.Lines.{is_blank, is_hash}
 use Rattle.leap_file.specs.declared.part.LeapLine.{LeapLine}
 use Rattle.leap_file.specs.declared.part.LeapLine.TheVariants.{Nothing, Numbers, Bad}
 use Rattle.leap_file.specs.declared.part.Part.{Part}
-use Rattle.leap_file.specs.declared.part.Part.TheVariants.{Start, Blank, Remark, Second, Gap, Dtai, Behind, Noted, Lost}
+use Rattle.leap_file.specs.declared.part.Part.TheVariants.{Start, Blank, Remark, Second, Gap, Dtai, After, Noted, Lost}
 use Rattle.leap_file.specs.declared.row.Row.{Row}
 
 abbrev pub starts : ℕ → Part
@@ -23,10 +23,10 @@ after_gap second byte = if is_blank byte then Gap second else if is_ascii_digit 
 abbrev pub after_dtai : ℕ → ℕ → ℕ → ℕ → Part
 after_dtai second digits dtai byte = if is_ascii_digit byte
     then (if nat_lt digits 3 then Dtai second (digits + 1) (dtai * 10 + digit_value byte) else Lost)
-    else if is_blank byte then Behind (record { second = second; dtai = dtai }) else Lost
+    else if is_blank byte then After (record { second = second; dtai = dtai }) else Lost
 
 abbrev pub after_row : Row → ℕ → Part
-after_row row byte = if is_blank byte then Behind row else if is_hash byte then Noted row else Lost
+after_row row byte = if is_blank byte then After row else if is_hash byte then Noted row else Lost
 
 abbrev pub next : Part → ℕ → Part
 next Start byte = starts byte
@@ -35,7 +35,7 @@ next Remark byte = Remark
 next (Second digits second) byte = after_second digits second byte
 next (Gap second) byte = after_gap second byte
 next (Dtai second digits dtai) byte = after_dtai second digits dtai byte
-next (Behind row) byte = after_row row byte
+next (After row) byte = after_row row byte
 next (Noted row) byte = Noted row
 next Lost byte = Lost
 
@@ -47,7 +47,7 @@ ends Remark = Nothing
 ends (Second digits second) = Bad
 ends (Gap second) = Bad
 ends (Dtai second digits dtai) = Numbers (record { second = second; dtai = dtai })
-ends (Behind row) = Numbers row
+ends (After row) = Numbers row
 ends (Noted row) = Numbers row
 ends Lost = Bad
 
@@ -63,6 +63,6 @@ is_small Remark = true
 is_small (Second digits second) = nat_le digits 10 && nat_lt second (10 ^ digits)
 is_small (Gap second) = true
 is_small (Dtai second digits dtai) = nat_le digits 3 && nat_lt dtai (10 ^ digits)
-is_small (Behind row) = true
+is_small (After row) = true
 is_small (Noted row) = true
 is_small Lost = true

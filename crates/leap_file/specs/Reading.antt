@@ -15,7 +15,7 @@ use Rattle.leap_file.specs.declared.row.Row.{Row}
 
 -- how far a text has come; where it ends with a carriage return, how far it had come before that
 abbrev pub EndsIn : (returned : Bool) → Part → List ℕ → Type 0
-EndsIn true part text = (front : List ℕ) × (text ≡ front ++ 13 ∷ []) × (part ≡ part_of front)
+EndsIn true part text = (leading : List ℕ) × (text ≡ leading ++ 13 ∷ []) × (part ≡ part_of leading)
 EndsIn false part text = (strip_carriage_return text ≡ text) × (part ≡ part_of text)
 
 -- the parser's state within an unfinished line

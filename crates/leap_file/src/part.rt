@@ -39,7 +39,7 @@ pub enum Part {
     /// After the second and blanks it has digits, which write the difference.
     Dtai(u64, u8, u16),
     /// Blanks stand after the row's two numbers.
-    Behind(Row),
+    After(Row),
     /// A remark stands after them.
     Noted(Row),
     /// No valid line begins in this way.
@@ -123,7 +123,7 @@ fn after_dtai(second: u64, digits: u8, dtai: u16, byte: u8) -> Part
             Part::Lost
         }
     } else if is_blank(byte) {
-        Part::Behind(Row { second, dtai })
+        Part::After(Row { second, dtai })
     } else {
         Part::Lost
     }
@@ -135,7 +135,7 @@ fn after_row(row: Row, byte: u8) -> Part
     ensures small { is_small result ≡ true }
 {
     if is_blank(byte) {
-        Part::Behind(row)
+        Part::After(row)
     } else if byte == b'#' {
         Part::Noted(row)
     } else {
@@ -162,7 +162,7 @@ pub(crate) fn next(part: Part, byte: u8) -> Part
         Part::Second(digits, second) => after_second(digits, second, byte),
         Part::Gap(second) => after_gap(second, byte),
         Part::Dtai(second, digits, dtai) => after_dtai(second, digits, dtai, byte),
-        Part::Behind(row) => after_row(row, byte),
+        Part::After(row) => after_row(row, byte),
         Part::Noted(row) => Part::Noted(row),
         Part::Lost => Part::Lost,
     }
@@ -179,7 +179,7 @@ pub(crate) fn ends(part: Part) -> LeapLine
         Part::Second(_, _) => LeapLine::Bad,
         Part::Gap(_) => LeapLine::Bad,
         Part::Dtai(second, _, dtai) => LeapLine::Numbers(Row { second, dtai }),
-        Part::Behind(row) => LeapLine::Numbers(row),
+        Part::After(row) => LeapLine::Numbers(row),
         Part::Noted(row) => LeapLine::Numbers(row),
         Part::Lost => LeapLine::Bad,
     }

@@ -1,6 +1,6 @@
 //! The reader of a leap second file: bytes in, leap seconds out, or the first bad line.
 ghost use Rattle.std.specs.Prelude.{◌≡◌, ℕ, ◌+◌, ◌<◌, List, [], ◌∷◌, ◌++◌, None, IfOk, IfSome, MatchResult};
-ghost use Rattle.tick_units.specs.Years.{end_of_told};
+ghost use Rattle.tick_units.specs.Years.{end_of_supported};
 ghost use Rattle.leap_file.specs.Reading.{counted};
 
 use crate::line::Line;
@@ -58,7 +58,7 @@ impl LeapReader {
     /// `BadLeap` where the line that it ends is bad. From then on each call returns the same.
     pub fn take(&mut self, byte: u8) -> Result<Option<u64>, BadLeap>
         ensures taken { (bytes : List ℕ) → HasRead self.old bytes → Takes self.new bytes byte result }
-        ensures told { IfOk result (λ found. IfSome found (λ second. second < end_of_told)) }
+        ensures reported { IfOk result (λ found. IfSome found (λ second. second < end_of_supported)) }
     {
         if let Some(bad) = self.bad {
             return Err(bad);
@@ -74,7 +74,7 @@ impl LeapReader {
     fn end_line(&mut self) -> Result<Option<u64>, BadLeap>
         requires { self.old.bad ≡ None }
         ensures taken { (bytes : List ℕ) → HasRead self.old bytes → Takes self.new bytes 10 result }
-        ensures told { IfOk result (λ found. IfSome found (λ second. second < end_of_told)) }
+        ensures reported { IfOk result (λ found. IfSome found (λ second. second < end_of_supported)) }
     {
         let said = self.line.says();
         self.line = Line::new();
@@ -89,7 +89,7 @@ impl LeapReader {
     // Takes a row, whose line is counted.
     fn add_row(&mut self, row: Row) -> Result<Option<u64>, BadLeap>
         ensures row { AddsRow self.old self.new row result }
-        ensures told { IfOk result (λ found. IfSome found (λ second. second < end_of_told)) }
+        ensures reported { IfOk result (λ found. IfSome found (λ second. second < end_of_supported)) }
     {
         if !may_stand(self.before, row) {
             return Err(self.stop());
@@ -120,7 +120,7 @@ impl LeapReader {
     /// `BadLeap` where one was returned, or where that line is bad. From then on each call returns the same.
     pub fn finish(&mut self) -> Result<Option<u64>, BadLeap>
         ensures finished { (bytes : List ℕ) → HasRead self.old bytes → Finishes self.new bytes result }
-        ensures told { IfOk result (λ found. IfSome found (λ second. second < end_of_told)) }
+        ensures reported { IfOk result (λ found. IfSome found (λ second. second < end_of_supported)) }
     {
         self.take(b'\n')
     }

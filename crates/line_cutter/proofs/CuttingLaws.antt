@@ -19,13 +19,13 @@ abbrev pub first_feed : List ℕ → ℕ
 first_feed piece = position_or_len is_feed piece
 
 -- before the first line feed there is none
-front_plain : (piece : List ℕ) (count : ℕ) → count ≤ first_feed piece → list_any is_feed (take count piece) ≡ false
-front_plain [] zero le = refl
-front_plain [] (suc count) le = refl
-front_plain (byte ∷ piece) zero le = refl
-front_plain (byte ∷ piece) (suc count) le = elim (cases_Bool (eqb byte 10)) [
+prefix_plain : (piece : List ℕ) (count : ℕ) → count ≤ first_feed piece → list_any is_feed (take count piece) ≡ false
+prefix_plain [] zero le = refl
+prefix_plain [] (suc count) le = refl
+prefix_plain (byte ∷ piece) zero le = refl
+prefix_plain (byte ∷ piece) (suc count) le = elim (cases_Bool (eqb byte 10)) [
   | inl feed ↦ (let le' : suc count ≤ 0 = rw feed at le in absurd (omega arith))
-  | inr other ↦ (let le' : suc count ≤ 1 + first_feed piece = rw other at le in or_from (eqb byte 10) (list_any is_feed (take count piece)) other (front_plain piece count (omega arith)))
+  | inr other ↦ (let le' : suc count ≤ 1 + first_feed piece = rw other at le in or_from (eqb byte 10) (list_any is_feed (take count piece)) other (prefix_plain piece count (omega arith)))
 ]
 
 abbrev longer : Lines → List ℕ → Lines
@@ -74,7 +74,7 @@ pub takes_all : (old new : LineCutter) (too_long : ℕ) (bytes piece : List ℕ)
     new.too_long ≡ old.too_long → line_in new ≡ unfinished_in old ++ piece → new.ended ≡ false → TakesPiece new too_long bytes piece (record { count = length piece; found = More })
 takes_all old new too_long bytes piece h none same line going =
     let all = take-length piece in
-    let plain = subst (λ (t : List ℕ). list_any is_feed t ≡ false) all (front_plain piece (length piece) (none_at piece none)) in
+    let plain = subst (λ (t : List ℕ). list_any is_feed t ≡ false) all (prefix_plain piece (length piece) (none_at piece none)) in
     let lines = lines_plain bytes piece plain in
     let now : unfinished_in new ≡ line_in new = rw going refl in
     let taken : HasTaken new too_long (bytes ++ piece) = record { limit = same ∙ h.limit; unfinished = now ∙ line ∙ ap (λ (t : List ℕ). t ++ piece) h.unfinished ∙ sym (ap (λ (l : Lines). l.unfinished) lines) } in
@@ -94,11 +94,11 @@ takes_line old new too_long bytes piece place h some same line ended =
     let here = found_at piece place some in
     let first = here.first in
     let within = here.within in
-    let plain = front_plain piece place (omega arith) in
+    let plain = prefix_plain piece place (omega arith) in
     let feed : get_or piece place 0 ≡ 10 = eqb-true (get_or piece place 0) 10 (subst (λ k. eqb (get_or piece k 0) 10 ≡ true) first (passes_at_first is_feed piece 0 (omega arith))) in
-    let front : take (place + 1) piece ≡ take place piece ++ 10 ∷ [] =
+    let prefix : take (place + 1) piece ≡ take place piece ++ 10 ∷ [] =
     ap (λ k. take k piece) (add-one place) ∙ take-suc piece place 0 within ∙ ap (λ b. take place piece ++ b ∷ []) feed in
-    let all : bytes ++ take (place + 1) piece ≡ bytes ++ take place piece ++ 10 ∷ [] = ap (λ (t : List ℕ). bytes ++ t) front ∙ sym (append_assoc bytes (take place piece) (10 ∷ [])) in
+    let all : bytes ++ take (place + 1) piece ≡ bytes ++ take place piece ++ 10 ∷ [] = ap (λ (t : List ℕ). bytes ++ t) prefix ∙ sym (append_assoc bytes (take place piece) (10 ∷ [])) in
     let lines = ap lines_of all ∙ lines_fed bytes (take place piece) plain in
     let now : unfinished_in new ≡ [] = rw ended refl in
     record {
@@ -114,12 +114,12 @@ takes_line old new too_long bytes piece place h some same line ended =
 too_much : (old : LineCutter) (bytes piece : List ℕ) (held : ℕ) → HasTaken old old.too_long bytes → held ≡ length (unfinished_in old) → held < old.too_long →
     old.too_long - held ≤ first_feed piece → old.too_long - held ≤ length piece → TakesPiece old old.too_long bytes piece (record { count = old.too_long - held; found = TooLong })
 too_much old bytes piece held h is short before within =
-    let front = take (old.too_long - held) piece in
-    let plain = front_plain piece (old.too_long - held) before in
-    let lines = lines_plain bytes front plain in
+    let prefix = take (old.too_long - held) piece in
+    let plain = prefix_plain piece (old.too_long - held) before in
+    let lines = lines_plain bytes prefix plain in
     let len = length-take-le (old.too_long - held) piece within in
     let kept = ap length h.unfinished in
-    let all = ap (λ (l : Lines). length l.unfinished) lines ∙ length-append (lines_of bytes).unfinished front in
+    let all = ap (λ (l : Lines). length l.unfinished) lines ∙ length-append (lines_of bytes).unfinished prefix in
     record { within = within; cut = (h, omega arith, ap (λ (l : Lines). l.complete) lines) }
 
 pub takes_too_much : (old : LineCutter) (too_long : ℕ) (bytes piece : List ℕ) (held : ℕ) → HasTaken old too_long bytes → held ≡ length (unfinished_in old) → held < old.too_long →

@@ -134,7 +134,7 @@ fn event_of(event: &LinkEvent<'_>) -> Event {
 }
 
 // The event at a place, as far as the link reports one.
-fn told(link: &MemoryLink, place: usize) -> Option<Event> {
+fn reported(link: &MemoryLink, place: usize) -> Option<Event> {
     match link.event(place) {
         Some(event) => Some(event_of(&event)),
         None => None,
@@ -142,12 +142,12 @@ fn told(link: &MemoryLink, place: usize) -> Option<Event> {
 }
 
 // The link reports these events and no others.
-fn tells(rt: &impl Abort, link: &MemoryLink, events: &[Event]) {
+fn reports(rt: &impl Abort, link: &MemoryLink, events: &[Event]) {
     same(rt, link.count(), events.len());
     for place in 0..20usize {
         same(
             rt,
-            (place, told(link, place)),
+            (place, reported(link, place)),
             (place, events.get(place).copied()),
         );
     }
@@ -167,19 +167,19 @@ const EVENTS: [Event; 8] = [
 ];
 
 // A link with this room, none of whose calls fails, reports these events.
-fn is_told(rt: &impl Abort, alloc: Global, space: Space, events: &[Event]) {
+fn is_supported(rt: &impl Abort, alloc: Global, space: Space, events: &[Event]) {
     match link(alloc, 0, space) {
         Ok(mut link) => {
             says(rt, &mut link, WHOLE);
-            tells(rt, &link, events);
+            reports(rt, &link, events);
         }
         Err(_) => assert!(*rt; false),
     }
 }
 
 #[test]
-fn a_link_hears_what_was_planned_and_then_its_end(rt: HostRuntime) {
-    is_told(&rt, rt.alloc(), AMPLE, &EVENTS);
+fn a_link_receives_what_was_planned_and_then_its_end(rt: HostRuntime) {
+    is_supported(&rt, rt.alloc(), AMPLE, &EVENTS);
 }
 
 // A link whose call of this number fails says this.
@@ -214,11 +214,11 @@ fn room_of(events: usize, bytes: usize) -> Space {
 }
 
 #[test]
-fn past_its_room_a_link_tells_nothing(rt: HostRuntime) {
-    is_told(&rt, rt.alloc(), room_of(8, 9), &EVENTS);
-    is_told(&rt, rt.alloc(), room_of(7, 9), &[]);
-    is_told(&rt, rt.alloc(), room_of(8, 8), &[]);
-    is_told(&rt, rt.alloc(), room_of(0, 0), &[]);
+fn past_its_room_a_link_reports_nothing(rt: HostRuntime) {
+    is_supported(&rt, rt.alloc(), room_of(8, 9), &EVENTS);
+    is_supported(&rt, rt.alloc(), room_of(7, 9), &[]);
+    is_supported(&rt, rt.alloc(), room_of(8, 8), &[]);
+    is_supported(&rt, rt.alloc(), room_of(0, 0), &[]);
 }
 
 // A link that receives one datagram: `length` bytes, each 7.

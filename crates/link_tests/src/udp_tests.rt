@@ -150,7 +150,7 @@ fn silence_is_quiet_and_an_error_of_the_socket_is_a_fault(rt: HostRuntime) {
 }
 
 #[test]
-fn a_call_is_made_again_that_was_interrupted_or_told_of_another_datagram(rt: HostRuntime) {
+fn a_call_is_made_again_that_was_interrupted_or_reported_of_another_datagram(rt: HostRuntime) {
     end(&rt, tried(&rt, ErrorKind::Interrupted, 3), DONE);
     end(&rt, tried(&rt, ErrorKind::Interrupted, 200), DONE);
     end(&rt, tried(&rt, ErrorKind::ConnectionRefused, 3), DONE);
@@ -477,7 +477,7 @@ fn visit(
 
 // The link of a free port, and a client.
 #[test]
-fn a_link_of_the_host_hears_and_answers(rt: HostRuntime) -> Result<(), Fail> {
+fn a_link_of_the_host_receives_and_answers(rt: HostRuntime) -> Result<(), Fail> {
     let mut task = Task::Talk(client_of(&rt)?);
     let mut outside = HostOutside::new(&rt);
     let first = visit(&rt, &mut outside, 0, 50, &mut task);
@@ -486,7 +486,7 @@ fn a_link_of_the_host_hears_and_answers(rt: HostRuntime) -> Result<(), Fail> {
 }
 
 #[test]
-fn two_seconds_of_silence_are_quiet_also_behind_a_dead_server(rt: HostRuntime) {
+fn two_seconds_of_silence_are_quiet_also_after_a_dead_server(rt: HostRuntime) {
     let mut outside = HostOutside::new(&rt);
     let dead = Address {
         ip: 0x7f00_0001,

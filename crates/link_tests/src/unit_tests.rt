@@ -4,8 +4,8 @@ ghost use Rattle.std.specs.Prelude.{◌<◌};
 use std::fmt::Debug;
 use std::process::Abort;
 use tick_units::{
-    END_OF_TOLD, FIRST_TOLD, LEAST_DISPERSION, Local, Plan, Short, Span, Stamp, is_told, isqrt,
-    local_span, phi, stamp_of, to_short,
+    END_OF_SUPPORTED, FIRST_SUPPORTED, LEAST_DISPERSION, Local, Plan, Short, Span, Stamp,
+    is_supported, isqrt, local_span, phi, stamp_of, to_short,
 };
 
 // Does what `assert_eq!` does, as a call. In a test with many of them, calls are proved in a third of the time.
@@ -212,20 +212,24 @@ fn plans_have_words_and_letters(rt: HostRuntime) {
 }
 
 // Whether a second is told.
-fn is_in_century(rt: &impl Abort, second: u64, told: bool) {
-    same(rt, is_told(second), told);
+fn is_in_century(rt: &impl Abort, second: u64, supported: bool) {
+    same(rt, is_supported(second), supported);
 }
 
 // RFC 5905, figure 4, has the last day of 1999; from 2000 on, 100 years have 36525 days.
 #[test]
-fn seconds_are_told_in_a_century(rt: HostRuntime) {
-    same(&rt, FIRST_TOLD, 3_155_587_200);
-    same(&rt, END_OF_TOLD, FIRST_TOLD + (1 + 36_525 + 2) * 86_400);
+fn seconds_are_supported_in_a_century(rt: HostRuntime) {
+    same(&rt, FIRST_SUPPORTED, 3_155_587_200);
+    same(
+        &rt,
+        END_OF_SUPPORTED,
+        FIRST_SUPPORTED + (1 + 36_525 + 2) * 86_400,
+    );
     is_in_century(&rt, 0, false);
-    is_in_century(&rt, FIRST_TOLD - 1, false);
-    is_in_century(&rt, FIRST_TOLD, true);
-    is_in_century(&rt, END_OF_TOLD - 1, true);
-    is_in_century(&rt, END_OF_TOLD, false);
+    is_in_century(&rt, FIRST_SUPPORTED - 1, false);
+    is_in_century(&rt, FIRST_SUPPORTED, true);
+    is_in_century(&rt, END_OF_SUPPORTED - 1, true);
+    is_in_century(&rt, END_OF_SUPPORTED, false);
 }
 
 #[test]

@@ -1,6 +1,6 @@
 -- Lemmas that several proofs of this crate use.
 pub mod DueLaws
 pub mod LinesLaws
-pub mod LawfulLaws
+pub mod ValidLaws
 pub mod RiseLaws
 pub mod StepLaws

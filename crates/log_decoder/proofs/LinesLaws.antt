@@ -9,19 +9,19 @@ use Rattle.tick_units.specs.declared.marks.Reduction.{Reduction}
 use Rattle.tick_units.specs.declared.verdicts.Heard.{Heard}
 use Rattle.journal_entry.specs.declared.entry.Entry.{Entry}
 use Rattle.pulse_log.specs.declared.reader.BadLine.{BadLine}
-use Rattle.pulse_log.specs.Reading.{HasRead, TakesFront}
+use Rattle.pulse_log.specs.Reading.{HasRead, TakesPrefix}
 use Rattle.pulse_log.specs.declared.reader.LineReader.{LineReader}
 use Rattle.radio_receiver.specs.Histories.{History, answers_of, least_after, with_reduction}
-use Rattle.log_decoder.specs.Decoding.{DecodesFront, FindsEntry, HasDecoded, IsReady, history_of, radio_log}
+use Rattle.log_decoder.specs.Decoding.{DecodesPrefix, FindsEntry, HasDecoded, IsReady, history_of, radio_log}
 use Rattle.log_decoder.specs.Due.{due_log, entry_of}
 use Rattle.log_decoder.specs.declared.decoder.LogDecoder.{LogDecoder}
-use Rattle.log_decoder.proofs.StepLaws.{due_more, due_same, least_on, may_hear}
+use Rattle.log_decoder.proofs.StepLaws.{due_more, due_same, least_on, may_receive}
 
 -- a beginning was taken that gave no entry
-pub record GoesOn {B : Type 0} (stands : B → History → Type 0) (decoder : LogDecoder B) (feed : ℕ) (plan : Plan) (delay : ℕ) (bytes front : List ℕ) : Type 0 where
-  pub decoded : HasDecoded stands decoder feed plan delay (bytes ++ front)
-  pub good : 0 < length front → bad_line (bytes ++ front) ≡ None
-  pub due : due_log feed plan delay (bytes ++ front) ≡ due_log feed plan delay bytes
+pub record GoesOn {B : Type 0} (stands : B → History → Type 0) (decoder : LogDecoder B) (feed : ℕ) (plan : Plan) (delay : ℕ) (bytes prefix : List ℕ) : Type 0 where
+  pub decoded : HasDecoded stands decoder feed plan delay (bytes ++ prefix)
+  pub good : 0 < length prefix → bad_line (bytes ++ prefix) ≡ None
+  pub due : due_log feed plan delay (bytes ++ prefix) ≡ due_log feed plan delay bytes
 
 -- of the bytes that are left, the reader of a decoder has taken up to the end of a line, which says this reduction
 pub record TakesLine {B : Type 0} (old now : LogDecoder B) (left : List ℕ) (before after : ℕ) (r : Reduction) : Type 0 where
@@ -30,12 +30,12 @@ pub record TakesLine {B : Type 0} (old now : LogDecoder B) (left : List ℕ) (be
   pub count : after ≡ before + more
   pub receiver : now.receiver ≡ old.receiver
   pub feed : now.feed ≡ old.feed
-  pub taken : (bytes : List ℕ) → HasRead old.reader bytes → TakesFront now.reader bytes (take more left) (Ok (Some r))
+  pub taken : (bytes : List ℕ) → HasRead old.reader bytes → TakesPrefix now.reader bytes (take more left) (Ok (Some r))
 
 -- its receiver may receive that
 pub line_may : {B : Type 0} (least : B → ℕ) (old now : LogDecoder B) (left : List ℕ) (before after : ℕ) (r : Reduction) → IsReady least old → TakesLine old now left before after r → least now.receiver ≤ r.at
 line_may least old now left before after r ready line =
-    subst (λ b. least b ≤ r.at) (sym line.receiver) (may_hear _ _ _ _ r ready.rises (line.taken ready.bytes ready.read))
+    subst (λ b. least b ≤ r.at) (sym line.receiver) (may_receive _ _ _ _ r ready.rises (line.taken ready.bytes ready.read))
 
 -- and once it has, it can take more
 pub line_ready : {B : Type 0} (least : B → ℕ) (old now new : LogDecoder B) (left : List ℕ) (before after : ℕ) (r : Reduction) → IsReady least old → TakesLine old now left before after r →
@@ -54,7 +54,7 @@ pub line_decoded : {B : Type 0} (stands : B → History → Type 0) (old now new
     (heard : Option Heard) (entry : Option Entry) (line : TakesLine old now left before after r) → HasDecoded stands old feed plan delay bytes → new.reader ≡ now.reader → new.feed ≡ now.feed →
     (stands now.receiver (history_of plan delay bytes) → stands new.receiver (with_reduction (history_of plan delay bytes) r)) →
     (stands now.receiver (history_of plan delay bytes) → answers_of (with_reduction (history_of plan delay bytes) r) ≡ answers_of (history_of plan delay bytes) ++ option_to_list heard) →
-    map (entry_of now.feed) (option_to_list heard) ≡ option_to_list entry → DecodesFront stands new (radio_log feed plan delay) bytes (take line.more left) (Ok entry)
+    map (entry_of now.feed) (option_to_list heard) ≡ option_to_list entry → DecodesPrefix stands new (radio_log feed plan delay) bytes (take line.more left) (Ok entry)
 line_decoded stands old now new feed plan delay bytes left before after r heard entry line decoded same kept stood answered is =
     let takes = line.taken bytes decoded.read in
     let longer = bytes ++ take line.more left in
@@ -71,42 +71,42 @@ line_decoded stands old now new feed plan delay bytes left before after r heard 
     }
 
 -- bytes that add no reduction
-adds_none : {B : Type 0} (stands : B → History → Type 0) (old now : LogDecoder B) (feed : ℕ) (plan : Plan) (delay : ℕ) (before front : List ℕ) (found : Result (Option Entry) BadLine) → HasDecoded stands old feed plan delay before →
-    now.receiver ≡ old.receiver → now.feed ≡ old.feed → HasRead now.reader (before ++ front) → pulses (before ++ front) ≡ pulses before → FindsEntry feed plan delay before (before ++ front) found →
-    DecodesFront stands now (radio_log feed plan delay) before front found
-adds_none stands old now feed plan delay before front found decoded same kept read more finds = record {
+adds_none : {B : Type 0} (stands : B → History → Type 0) (old now : LogDecoder B) (feed : ℕ) (plan : Plan) (delay : ℕ) (before prefix : List ℕ) (found : Result (Option Entry) BadLine) → HasDecoded stands old feed plan delay before →
+    now.receiver ≡ old.receiver → now.feed ≡ old.feed → HasRead now.reader (before ++ prefix) → pulses (before ++ prefix) ≡ pulses before → FindsEntry feed plan delay before (before ++ prefix) found →
+    DecodesPrefix stands now (radio_log feed plan delay) before prefix found
+adds_none stands old now feed plan delay before prefix found decoded same kept read more finds = record {
   decoded = record {
     of_feed = kept ∙ decoded.of_feed;
     read = read;
-    heard = subst (λ b. stands b (history_of plan delay (before ++ front))) (sym same) (subst (λ (rs : List Reduction). stands old.receiver (record { plan = plan; delay = delay; reductions = rs })) (sym more) decoded.heard);
+    heard = subst (λ b. stands b (history_of plan delay (before ++ prefix))) (sym same) (subst (λ (rs : List Reduction). stands old.receiver (record { plan = plan; delay = delay; reductions = rs })) (sym more) decoded.heard);
   };
   finds = finds;
 }
 
 -- bytes in which no line ends
-pub rests : {B : Type 0} (stands : B → History → Type 0) (old now : LogDecoder B) (feed : ℕ) (plan : Plan) (delay : ℕ) (before front : List ℕ) → HasDecoded stands old feed plan delay before →
-    now.receiver ≡ old.receiver → now.feed ≡ old.feed → TakesFront now.reader before front (Ok None) → DecodesFront stands now (radio_log feed plan delay) before front (Ok None)
-rests stands old now feed plan delay before front decoded same kept takes =
-    let more : pulses (before ++ front) ≡ pulses before = takes.found.1 ∙ append-nil (pulses before) in
-    adds_none stands old now feed plan delay before front (Ok None) decoded same kept takes.read more
-    (takes.found.0, due_same feed plan delay before (before ++ front) more ∙ sym (append-nil (due_log feed plan delay before)))
+pub rests : {B : Type 0} (stands : B → History → Type 0) (old now : LogDecoder B) (feed : ℕ) (plan : Plan) (delay : ℕ) (before prefix : List ℕ) → HasDecoded stands old feed plan delay before →
+    now.receiver ≡ old.receiver → now.feed ≡ old.feed → TakesPrefix now.reader before prefix (Ok None) → DecodesPrefix stands now (radio_log feed plan delay) before prefix (Ok None)
+rests stands old now feed plan delay before prefix decoded same kept takes =
+    let more : pulses (before ++ prefix) ≡ pulses before = takes.found.1 ∙ append-nil (pulses before) in
+    adds_none stands old now feed plan delay before prefix (Ok None) decoded same kept takes.read more
+    (takes.found.0, due_same feed plan delay before (before ++ prefix) more ∙ sym (append-nil (due_log feed plan delay before)))
 
-pub rests_ready : {B : Type 0} (least : B → ℕ) (old now : LogDecoder B) (before front : List ℕ) → least old.receiver ≤ least_after (pulses before) → now.receiver ≡ old.receiver →
-    TakesFront now.reader before front (Ok None) → IsReady least now
-rests_ready least old now before front rises same takes =
-    let more : pulses (before ++ front) ≡ pulses before = takes.found.1 ∙ append-nil (pulses before) in
+pub rests_ready : {B : Type 0} (least : B → ℕ) (old now : LogDecoder B) (before prefix : List ℕ) → least old.receiver ≤ least_after (pulses before) → now.receiver ≡ old.receiver →
+    TakesPrefix now.reader before prefix (Ok None) → IsReady least now
+rests_ready least old now before prefix rises same takes =
+    let more : pulses (before ++ prefix) ≡ pulses before = takes.found.1 ∙ append-nil (pulses before) in
     record {
-      bytes = before ++ front;
+      bytes = before ++ prefix;
       read = takes.read;
       rises = subst (λ (rs : List Reduction). least now.receiver ≤ least_after rs) (sym more) (subst (λ b. least b ≤ least_after (pulses before)) (sym same) rises);
     }
 
 -- bytes with the first bad line
-pub fails : {B : Type 0} (stands : B → History → Type 0) (old now : LogDecoder B) (feed : ℕ) (plan : Plan) (delay : ℕ) (before front : List ℕ) (bad : BadLine) → HasDecoded stands old feed plan delay before →
-    now.receiver ≡ old.receiver → now.feed ≡ old.feed → TakesFront now.reader before front (Err bad) → DecodesFront stands now (radio_log feed plan delay) before front (Err bad)
-fails stands old now feed plan delay before front bad decoded same kept takes =
-    adds_none stands old now feed plan delay before front (Err bad) decoded same kept takes.read takes.found.1
-    (takes.found.0, due_same feed plan delay before (before ++ front) takes.found.1)
+pub fails : {B : Type 0} (stands : B → History → Type 0) (old now : LogDecoder B) (feed : ℕ) (plan : Plan) (delay : ℕ) (before prefix : List ℕ) (bad : BadLine) → HasDecoded stands old feed plan delay before →
+    now.receiver ≡ old.receiver → now.feed ≡ old.feed → TakesPrefix now.reader before prefix (Err bad) → DecodesPrefix stands now (radio_log feed plan delay) before prefix (Err bad)
+fails stands old now feed plan delay before prefix bad decoded same kept takes =
+    adds_none stands old now feed plan delay before prefix (Err bad) decoded same kept takes.read takes.found.1
+    (takes.found.0, due_same feed plan delay before (before ++ prefix) takes.found.1)
 
 module _ {B : Type 0} (stands : B → History → Type 0) (feed : ℕ) (plan : Plan) (delay : ℕ) (bytes : List ℕ) where
   pub none_yet : (decoder : LogDecoder B) → HasDecoded stands decoder feed plan delay bytes → GoesOn stands decoder feed plan delay bytes []
@@ -121,7 +121,7 @@ module _ {B : Type 0} (stands : B → History → Type 0) (feed : ℕ) (plan : P
   regroup all count more = append_assoc bytes (take count all) (take more (drop count all)) ∙ ap (λ (t : List ℕ). bytes ++ t) (sym (take-add count more all))
 
   pub ends : (before now : LogDecoder B) (all : List ℕ) (count more : ℕ) (found : Result (Option Entry) BadLine) → GoesOn stands before feed plan delay bytes (take count all) →
-      DecodesFront stands now (radio_log feed plan delay) (bytes ++ take count all) (take more (drop count all)) found → DecodesFront stands now (radio_log feed plan delay) bytes (take (count + more) all) found
+      DecodesPrefix stands now (radio_log feed plan delay) (bytes ++ take count all) (take more (drop count all)) found → DecodesPrefix stands now (radio_log feed plan delay) bytes (take (count + more) all) found
   ends before now all count more (Ok entry) goes takes = record {
     decoded = subst (HasDecoded stands now feed plan delay) (regroup all count more) takes.decoded;
     finds = (
@@ -135,10 +135,10 @@ module _ {B : Type 0} (stands : B → History → Type 0) (feed : ℕ) (plan : P
   }
 
   pub goes_on : (before now : LogDecoder B) (all : List ℕ) (count more : ℕ) (found : Result (Option Entry) BadLine) → found ≡ Ok None → GoesOn stands before feed plan delay bytes (take count all) →
-      DecodesFront stands now (radio_log feed plan delay) (bytes ++ take count all) (take more (drop count all)) found → GoesOn stands now feed plan delay bytes (take (count + more) all)
+      DecodesPrefix stands now (radio_log feed plan delay) (bytes ++ take count all) (take more (drop count all)) found → GoesOn stands now feed plan delay bytes (take (count + more) all)
   goes_on before now all count more found none goes takes =
-      let both = ends before now all count more (Ok None) goes (subst (DecodesFront stands now (radio_log feed plan delay) (bytes ++ take count all) (take more (drop count all))) none takes) in
+      let both = ends before now all count more (Ok None) goes (subst (DecodesPrefix stands now (radio_log feed plan delay) (bytes ++ take count all) (take more (drop count all))) none takes) in
       record { decoded = both.decoded; good = λ _. both.finds.0; due = both.finds.1 ∙ append-nil (due_log feed plan delay bytes) }
 
-  pub gives_none : (now : LogDecoder B) (front : List ℕ) → 0 < length front → GoesOn stands now feed plan delay bytes front → DecodesFront stands now (radio_log feed plan delay) bytes front (Ok None)
-  gives_none now front some goes = record { decoded = goes.decoded; finds = (goes.good some, goes.due ∙ sym (append-nil (due_log feed plan delay bytes))) }
+  pub gives_none : (now : LogDecoder B) (prefix : List ℕ) → 0 < length prefix → GoesOn stands now feed plan delay bytes prefix → DecodesPrefix stands now (radio_log feed plan delay) bytes prefix (Ok None)
+  gives_none now prefix some goes = record { decoded = goes.decoded; finds = (goes.good some, goes.due ∙ sym (append-nil (due_log feed plan delay bytes))) }

@@ -7,7 +7,7 @@ use Rattle.tick_units.specs.declared.marks.Plan.{Plan}
 use Rattle.tick_units.specs.declared.marks.Reduction.{Reduction}
 use Rattle.tick_units.specs.declared.verdicts.Heard.{Heard}
 use Rattle.journal_entry.specs.declared.entry.Entry.{Entry}
-use Rattle.pulse_log.specs.Reading.{TakesFront}
+use Rattle.pulse_log.specs.Reading.{TakesPrefix}
 use Rattle.pulse_log.specs.declared.reader.LineReader.{LineReader}
 use Rattle.radio_receiver.specs.Histories.{answers_of, least_after, with_reduction}
 use Rattle.radio_receiver.proofs.LastLaws.{least_push}
@@ -16,8 +16,8 @@ use Rattle.log_decoder.specs.Due.{due_log, entry_of}
 use Rattle.log_decoder.proofs.RiseLaws.{pulses_rise}
 
 -- the reduction of the next line starts where a receiver can take it
-pub may_hear : (least : ℕ) (reader : LineReader) (bytes front : List ℕ) (r : Reduction) → least ≤ least_after (pulses bytes) → TakesFront reader bytes front (Ok (Some r)) → least ≤ r.at
-may_hear least reader bytes front r le takes = let rise = pulses_rise bytes (bytes ++ front) r takes.found.1 in omega (arith, le, rise)
+pub may_receive : (least : ℕ) (reader : LineReader) (bytes prefix : List ℕ) (r : Reduction) → least ≤ least_after (pulses bytes) → TakesPrefix reader bytes prefix (Ok (Some r)) → least ≤ r.at
+may_receive least reader bytes prefix r le takes = let rise = pulses_rise bytes (bytes ++ prefix) r takes.found.1 in omega (arith, le, rise)
 
 -- a receiver that has received it can take what comes after it
 pub least_on : (least : ℕ) (bytes longer : List ℕ) (r : Reduction) → least ≡ r.at + 1 → pulses longer ≡ pulses bytes ++ r ∷ [] → least ≤ least_after (pulses longer)

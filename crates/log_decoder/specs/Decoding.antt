@@ -4,7 +4,7 @@ use Rattle.std.specs.Prelude.{◌≡◌, ◌≤◌, ◌^◌, ℕ, Option, None, 
 use Rattle.std.specs.Option.{option_to_list}
 use Rattle.tick_units.specs.Log.{pulses, bad_line}
 use Rattle.tick_units.specs.declared.marks.Plan.{Plan}
-use Rattle.journal_entry.specs.Lawful.{IsLawfulWhat}
+use Rattle.journal_entry.specs.Valid.{IsValidWhat}
 use Rattle.journal_entry.specs.declared.entry.Entry.{Entry}
 use Rattle.pulse_log.specs.Reading.{HasRead}
 use Rattle.pulse_log.specs.declared.reader.BadLine.{BadLine}
@@ -27,7 +27,7 @@ feed_of decoder = decoder.feed
 -- an entry of a feed, as receivers make them
 pub record IsEntryOf (feed : ℕ) (entry : Entry) : Type 0 where
   pub of_feed : entry.feed ≡ feed
-  pub lawful : IsLawfulWhat entry.what
+  pub valid : IsValidWhat entry.what
 
 -- the decoder of a feed has taken these bytes: its reader has read them, and its receiver has received their reductions
 pub record HasDecoded {B : Type 0} (stands : B → History → Type 0) (decoder : LogDecoder B) (feed : ℕ) (plan : Plan) (delay : ℕ) (bytes : List ℕ) : Type 0 where
@@ -57,6 +57,6 @@ abbrev pub radio_log : ℕ → Plan → ℕ → RadioLog
 radio_log feed plan delay = record { feed = feed; plan = plan; delay = delay }
 
 -- a prefix of what comes is taken
-pub record DecodesFront {B : Type 0} (stands : B → History → Type 0) (decoder : LogDecoder B) (log : RadioLog) (bytes front : List ℕ) (found : Result (Option Entry) BadLine) : Type 0 where
-  pub decoded : HasDecoded stands decoder log.feed log.plan log.delay (bytes ++ front)
-  pub finds : FindsEntry log.feed log.plan log.delay bytes (bytes ++ front) found
+pub record DecodesPrefix {B : Type 0} (stands : B → History → Type 0) (decoder : LogDecoder B) (log : RadioLog) (bytes prefix : List ℕ) (found : Result (Option Entry) BadLine) : Type 0 where
+  pub decoded : HasDecoded stands decoder log.feed log.plan log.delay (bytes ++ prefix)
+  pub finds : FindsEntry log.feed log.plan log.delay bytes (bytes ++ prefix) found

@@ -4,7 +4,7 @@ ghost use Rattle.tick_units.specs.Log.{bad_at_end};
 ghost use Rattle.tick_units.specs.declared.marks.Plan.{Plan};
 ghost use Rattle.minute_pair.specs.Years.{BelievesYears};
 ghost use Rattle.log_decoder.specs.Due.{entry_of};
-ghost use Rattle.log_decoder.specs.Decoding.{HasDecoded, IsReady, IsEntryOf, DecodesFront, feed_of, radio_log};
+ghost use Rattle.log_decoder.specs.Decoding.{HasDecoded, IsReady, IsEntryOf, DecodesPrefix, feed_of, radio_log};
 
 use journal_entry::{Entry, What};
 use pulse_log::{BadLine, LineReader, Taken};
@@ -29,7 +29,7 @@ pub struct LogDecoder<R: Drop> {
 fn entry_of(feed: u32, heard: Heard) -> Entry
     requires { BelievesYears heard.kind }
     ensures value { result ≡ entry_of feed heard }
-    ensures lawful { IsEntryOf feed result }
+    ensures valid { IsEntryOf feed result }
 {
     Entry {
         feed,
@@ -66,11 +66,11 @@ impl<R: Receiver> LogDecoder<R> {
         ensures within { result.count ≤ length bytes.now }
         ensures ready { IsReady R.least_start self.new }
         ensures feed { feed_of self.new ≡ feed_of self.old }
-        ensures lawful { IfOk result.found (λ found. IfSome found (IsEntryOf (feed_of self.old))) }
+        ensures valid { IfOk result.found (λ found. IfSome found (IsEntryOf (feed_of self.old))) }
         ensures taken { (feed : ℕ) (plan : Plan) (delay : ℕ) (before : List ℕ) →
             HasDecoded R.stands_for self.old feed plan delay before →
-            let front = take result.count bytes.now in
-            DecodesFront R.stands_for self.new (radio_log feed plan delay) before front result.found }
+            let prefix = take result.count bytes.now in
+            DecodesPrefix R.stands_for self.new (radio_log feed plan delay) before prefix result.found }
     {
         // Call functions that aren't inlined only from here: their result is then zeroed once a call of `next_entry`, and not once a
         // line.
@@ -83,9 +83,9 @@ impl<R: Receiver> LogDecoder<R> {
                     line.found
                 }
                 None => {
-                    let front = self.reader.take_by_bytes(rest);
-                    count += front.count;
-                    match front.found {
+                    let prefix = self.reader.take_by_bytes(rest);
+                    count += prefix.count;
+                    match prefix.found {
                         Ok(Some(reduction)) => reduction,
                         Ok(None) => continue,
                         Err(bad) => {

@@ -1,6 +1,6 @@
 -- What a log and an output in memory report, and an output's calls.
 use Rattle.std.specs.Prelude.{ℕ, Some, drop, vec_capacity}
-use Rattle.feed_link.specs.Told.{SourceState, SinkState}
+use Rattle.outside_traits.specs.States.{SourceState, SinkState}
 use Rattle.memory_links.specs.declared.calls.Calls.{Calls}
 use Rattle.memory_links.specs.declared.sure_source.SureSource.{SureSource}
 use Rattle.memory_links.specs.declared.memory_sink.MemorySink.{MemorySink}

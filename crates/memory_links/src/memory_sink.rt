@@ -1,11 +1,11 @@
 // An output in memory.
 ghost use Rattle.std.specs.Prelude.{◌≡◌, ◌⊎◌, ◌+◌, ◌<◌, ◌≤◌, ℕ, true, Some, [], length, IfOk, OnOk, OnErr};
-ghost use Rattle.feed_link.specs.Faults.{HasCause};
-ghost use Rattle.feed_link.specs.Told.{Writes};
+ghost use Rattle.outside_traits.specs.Faults.{HasCause};
+ghost use Rattle.outside_traits.specs.States.{Writes};
 ghost use Rattle.memory_links.specs.Calls.{AreStated, IsCalled, fails_next};
 
 use crate::calls::Calls;
-use feed_link::{Failed, Sink};
+use outside_traits::{Failed, Sink};
 use std::alloc::Global;
 
 /// An output in memory, of which stated calls of `write` fail. It is a fault too where there is no memory to grow.

@@ -1,7 +1,7 @@
 // A log in memory that never fails.
 ghost use Rattle.std.specs.Prelude.{◌≡◌, ℕ, ◌≤◌, Some, drop, length, vec_len};
 
-use feed_link::{Failed, Source};
+use outside_traits::{Failed, Source};
 
 /// A log in memory that never fails.
 #[derive(Drop)]

@@ -5,8 +5,8 @@ use Rattle.std.specs.Prelude.{slice_get, unwrap_or}
 use Rattle.std.specs.Option.{option_map}
 use Rattle.std.specs.List.{sum_by}
 use Rattle.std.proofs.lemmas.List.Sums.{sum_by-append, sum_by-cons}
-use Rattle.feed_link.specs.Told.{NetEvent}
-use Rattle.memory_outside.specs.Book.{EventRoom, HasEventRoom, NotesEvent, IsNotedAs, event_with, event_in, events_told, bytes_of, bytes_in, HasBytes, AreRows}
+use Rattle.outside_traits.specs.States.{NetEvent}
+use Rattle.memory_outside.specs.Book.{EventRoom, HasEventRoom, NotesEvent, IsNotedAs, event_with, event_in, events_reported, bytes_of, bytes_in, HasBytes, AreRows}
 use Rattle.memory_outside.specs.declared.book.Kind.{Kind}
 use Rattle.memory_outside.specs.declared.book.Row.{Row}
 
@@ -46,15 +46,15 @@ events_push : (kind : Kind) (bytes more : List ℕ) (rows : List Row) → HasByt
     map (event_in (bytes ++ more)) (rows ++ row_for kind bytes more ∷ []) ≡ map (event_in bytes) rows ++ event_with kind more ∷ []
 events_push kind bytes more rows h =
     map-append (event_in (bytes ++ more)) rows (row_for kind bytes more ∷ [])
-    ∙ ap (λ front. front ++ event_in (bytes ++ more) (row_for kind bytes more) ∷ []) (events_more bytes more rows h)
+    ∙ ap (λ prefix. prefix ++ event_in (bytes ++ more) (row_for kind bytes more) ∷ []) (events_more bytes more rows h)
     ∙ ap (λ e. map (event_in bytes) rows ++ e ∷ []) (event_new kind bytes more)
 
-pub note_push : (tells : Bool) (bytes bytes_now : List ℕ) (rows rows_now : List Row) (room : EventRoom) (event : NetEvent) → AreRows bytes rows →
+pub note_push : (reports : Bool) (bytes bytes_now : List ℕ) (rows rows_now : List Row) (room : EventRoom) (event : NetEvent) → AreRows bytes rows →
     bytes_now ≡ bytes ++ bytes_of event → IsNotedAs event (length bytes) rows rows_now →
-    NotesEvent (record { events = events_told tells bytes rows; room = room }) (record { events = events_told tells bytes_now rows_now; room = room }) event
+    NotesEvent (record { events = events_reported reports bytes rows; room = room }) (record { events = events_reported reports bytes_now rows_now; room = room }) event
 note_push false bytes bytes_now rows rows_now room event are longer is = record {
   noted = tt;
-  told = λ events e fits. absurd (let f : ◌≡◌ {A = Option (List NetEvent)} None (Some events) = e in cc);
+  reported = λ events e fits. absurd (let f : ◌≡◌ {A = Option (List NetEvent)} None (Some events) = e in cc);
   same_room = refl;
 }
 note_push true bytes bytes_now rows rows_now room event are longer is =
@@ -63,7 +63,7 @@ note_push true bytes bytes_now rows rows_now room event are longer is =
     ∙ events_push is.kind bytes (bytes_of event) rows are.has_bytes ∙ ap (λ e. map (event_in bytes) rows ++ e ∷ []) is.is in
     record {
       noted = more;
-      told = λ events e fits. ap Some more ∙ ap (λ (o : Option (List NetEvent)). option_map (λ l. l ++ event ∷ []) o) e;
+      reported = λ events e fits. ap Some more ∙ ap (λ (o : Option (List NetEvent)). option_map (λ l. l ++ event ∷ []) o) e;
       same_room = refl;
     }
 
@@ -89,15 +89,15 @@ bytes_sum bytes (row ∷ rows) h =
     ∙ ap (λ n. row.length + n) (bytes_sum bytes rows h.2)
     ∙ sym (sum_by-cons (λ (r : Row). r.length) row rows)
 
-pub note_full : (tells : Bool) (bytes : List ℕ) (rows : List Row) (room : EventRoom) (event : NetEvent) → AreRows bytes rows →
+pub note_full : (reports : Bool) (bytes : List ℕ) (rows : List Row) (room : EventRoom) (event : NetEvent) → AreRows bytes rows →
     (room.bytes < length bytes + length (bytes_of event)) ⊎ (room.events ≤ length rows) →
-    NotesEvent (record { events = events_told tells bytes rows; room = room }) (record { events = None; room = room }) event
-note_full tells bytes rows room event are full = record {
+    NotesEvent (record { events = events_reported reports bytes rows; room = room }) (record { events = None; room = room }) event
+note_full reports bytes rows room event are full = record {
   noted = tt;
-  told = λ events e fits. absurd (none tells events e fits);
+  reported = λ events e fits. absurd (none reports events e fits);
   same_room = refl;
 } where
-  none : (tells : Bool) (events : List NetEvent) → events_told tells bytes rows ≡ Some events → HasEventRoom room (events ++ event ∷ []) → ⊥
+  none : (reports : Bool) (events : List NetEvent) → events_reported reports bytes rows ≡ Some events → HasEventRoom room (events ++ event ∷ []) → ⊥
   none false events e fits = let f : ◌≡◌ {A = Option (List NetEvent)} None (Some events) = e in cc
   none true events e fits =
       let same : map (event_in bytes) rows ≡ events = cc in
@@ -121,14 +121,14 @@ event_at bytes [] place = refl
 event_at bytes (r ∷ rows) zero = refl
 event_at bytes (r ∷ rows) (suc place) = event_at bytes rows place
 
-pub event_some : (tells : Bool) (bytes : List ℕ) (rows : List Row) (place : ℕ) (row : Row) (event : NetEvent) → tells ≡ true → slice_get rows place ≡ Some row → event ≡ event_in bytes row →
-    Some event ≡ slice_get (unwrap_or (events_told tells bytes rows) []) place
-event_some tells bytes rows place row event told there is =
+pub event_some : (reports : Bool) (bytes : List ℕ) (rows : List Row) (place : ℕ) (row : Row) (event : NetEvent) → reports ≡ true → slice_get rows place ≡ Some row → event ≡ event_in bytes row →
+    Some event ≡ slice_get (unwrap_or (events_reported reports bytes rows) []) place
+event_some reports bytes rows place row event reported there is =
     ap Some is ∙ ap (option_map (event_in bytes)) (sym there) ∙ sym (event_at bytes rows place)
-    ∙ ap (λ t. slice_get (unwrap_or (events_told t bytes rows) []) place) (sym told)
+    ∙ ap (λ t. slice_get (unwrap_or (events_reported t bytes rows) []) place) (sym reported)
 
-pub event_none : (tells : Bool) (bytes : List ℕ) (rows : List Row) (place : ℕ) → tells ≡ true → slice_get rows place ≡ None →
-    None ≡ slice_get (unwrap_or (events_told tells bytes rows) []) place
-event_none tells bytes rows place told there =
+pub event_none : (reports : Bool) (bytes : List ℕ) (rows : List Row) (place : ℕ) → reports ≡ true → slice_get rows place ≡ None →
+    None ≡ slice_get (unwrap_or (events_reported reports bytes rows) []) place
+event_none reports bytes rows place reported there =
     ap (option_map (event_in bytes)) (sym there) ∙ sym (event_at bytes rows place)
-    ∙ ap (λ t. slice_get (unwrap_or (events_told t bytes rows) []) place) (sym told)
+    ∙ ap (λ t. slice_get (unwrap_or (events_reported t bytes rows) []) place) (sym reported)

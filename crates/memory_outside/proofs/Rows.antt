@@ -5,9 +5,9 @@ use Rattle.std.specs.Prelude.{slice_get}
 use Rattle.std.specs.Option.{option_map}
 use Rattle.std.specs.List.{sum_by}
 use Rattle.std.proofs.lemmas.List.Sums.{sum_by-append, sum_by-cons}
-use Rattle.feed_link.specs.Openings.{Opening, State, Room, HasRoom, IsOut, with_back, name_of, names_in}
+use Rattle.outside_traits.specs.Openings.{Opening, State, Room, HasRoom, IsOut, with_back, name_of, names_in}
 use Rattle.std.specs.Prelude.{IfSome}
-use Rattle.memory_outside.specs.Ledger.{Notes, state_of, wanted_by, opening_of, openings_told, HasNames, AreRows}
+use Rattle.memory_outside.specs.Ledger.{Notes, state_of, wanted_by, opening_of, openings_reported, HasNames, AreRows}
 use Rattle.memory_outside.specs.declared.ledger.Port.{Port}
 use Rattle.memory_outside.specs.declared.ledger.Seen.{Seen}
 use Rattle.memory_outside.specs.declared.ledger.Row.{Row}
@@ -49,21 +49,21 @@ openings_push : (names more : List ℕ) (rows : List Row) (port : Option Port) (
     map (opening_of (names ++ more)) (rows ++ row_of names more port opened ∷ []) ≡ map (opening_of names) rows ++ opening_new more port opened ∷ []
 openings_push names more rows port opened h =
     map-append (opening_of (names ++ more)) rows _
-    ∙ ap (λ front. front ++ opening_of (names ++ more) (row_of names more port opened) ∷ []) (openings_more names more rows h)
+    ∙ ap (λ prefix. prefix ++ opening_of (names ++ more) (row_of names more port opened) ∷ []) (openings_more names more rows h)
     ∙ ap (λ (name : List ℕ). map (opening_of names) rows ++ record { what = wanted_by name port; opened = option_map state_of opened; back = None } ∷ []) (name_new names more)
 
-pub told_push : (tells : Bool) (names more : List ℕ) (rows : List Row) (room : Room) (port : Option Port) (opened : Option Seen) → HasNames names rows →
-    Notes (record { openings = openings_told tells names rows; room = room })
-    (record { openings = openings_told tells (names ++ more) (rows ++ row_of names more port opened ∷ []); room = room })
+pub reported_push : (reports : Bool) (names more : List ℕ) (rows : List Row) (room : Room) (port : Option Port) (opened : Option Seen) → HasNames names rows →
+    Notes (record { openings = openings_reported reports names rows; room = room })
+    (record { openings = openings_reported reports (names ++ more) (rows ++ row_of names more port opened ∷ []); room = room })
     (opening_new more port opened)
-told_push false names more rows room port opened h = record {
+reported_push false names more rows room port opened h = record {
   noted = tt;
-  told = λ openings e fits. absurd (let f : ◌≡◌ {A = Option (List Opening)} None (Some openings) = e in cc);
+  reported = λ openings e fits. absurd (let f : ◌≡◌ {A = Option (List Opening)} None (Some openings) = e in cc);
   same_room = refl;
 }
-told_push true names more rows room port opened h = record {
+reported_push true names more rows room port opened h = record {
   noted = openings_push names more rows port opened h;
-  told = λ openings e fits. ap Some (openings_push names more rows port opened h) ∙ ap (λ (o : Option (List Opening)). option_map (λ l. l ++ opening_new more port opened ∷ []) o) e;
+  reported = λ openings e fits. ap Some (openings_push names more rows port opened h) ∙ ap (λ (o : Option (List Opening)). option_map (λ l. l ++ opening_new more port opened ∷ []) o) e;
   same_room = refl;
 }
 
@@ -88,17 +88,17 @@ new_size : (more : List ℕ) (port : Option Port) → IfSome port (λ _. length 
 new_size more None none = refl
 new_size more (Some port) none = sym none
 
-pub told_full : (tells : Bool) (names more : List ℕ) (rows : List Row) (room : Room) (port : Option Port) (opened : Option Seen) → AreRows names rows → IfSome port (λ _. length more ≡ 0) →
+pub reported_full : (reports : Bool) (names more : List ℕ) (rows : List Row) (room : Room) (port : Option Port) (opened : Option Seen) → AreRows names rows → IfSome port (λ _. length more ≡ 0) →
     (room.names < length names + length more) ⊎ (room.openings ≤ length rows) →
-    Notes (record { openings = openings_told tells names rows; room = room }) (record { openings = None; room = room }) (opening_new more port opened)
-told_full tells names more rows room port opened are nameless full = record {
+    Notes (record { openings = openings_reported reports names rows; room = room }) (record { openings = None; room = room }) (opening_new more port opened)
+reported_full reports names more rows room port opened are nameless full = record {
   noted = tt;
-  told = λ openings e fits. absurd (none tells names more rows room port opened are nameless full openings e fits);
+  reported = λ openings e fits. absurd (none reports names more rows room port opened are nameless full openings e fits);
   same_room = refl;
 } where
-  none : (tells : Bool) (names more : List ℕ) (rows : List Row) (room : Room) (port : Option Port) (opened : Option Seen) → AreRows names rows → IfSome port (λ _. length more ≡ 0) →
+  none : (reports : Bool) (names more : List ℕ) (rows : List Row) (room : Room) (port : Option Port) (opened : Option Seen) → AreRows names rows → IfSome port (λ _. length more ≡ 0) →
       (room.names < length names + length more) ⊎ (room.openings ≤ length rows) →
-      (openings : List Opening) → openings_told tells names rows ≡ Some openings → HasRoom room (openings ++ opening_new more port opened ∷ []) → ⊥
+      (openings : List Opening) → openings_reported reports names rows ≡ Some openings → HasRoom room (openings ++ opening_new more port opened ∷ []) → ⊥
   none false names more rows room port opened are nameless full openings e fits = let f : ◌≡◌ {A = Option (List Opening)} None (Some openings) = e in cc
   none true names more rows room port opened are nameless full openings e fits =
       let same : map (opening_of names) rows ≡ openings = cc in
@@ -120,10 +120,10 @@ back_set names (r ∷ rows) zero row seen e = let same : r ≡ row = cc in rw sa
 back_set names (r ∷ rows) (suc n) row seen e = ap (λ rest. opening_of names r ∷ rest) (back_set names rows n row seen e)
 
 -- a row whose object is back is an opening whose object is back
-pub told_back : (tells : Bool) (names : List ℕ) (rows : List Row) (n : ℕ) (row : Row) (seen : Seen) → slice_get rows n ≡ Some row →
-    openings_told tells names (set rows n (record row { back = Some seen })) ≡ option_map (with_back n (state_of seen)) (openings_told tells names rows)
-told_back false names rows n row seen e = refl
-told_back true names rows n row seen e = ap Some (back_set names rows n row seen e)
+pub reported_back : (reports : Bool) (names : List ℕ) (rows : List Row) (n : ℕ) (row : Row) (seen : Seen) → slice_get rows n ≡ Some row →
+    openings_reported reports names (set rows n (record row { back = Some seen })) ≡ option_map (with_back n (state_of seen)) (openings_reported reports names rows)
+reported_back false names rows n row seen e = refl
+reported_back true names rows n row seen e = ap Some (back_set names rows n row seen e)
 
 HasNames-back : (names : List ℕ) (rows : List Row) (n : ℕ) (row : Row) (seen : Seen) → slice_get rows n ≡ Some row → HasNames names rows → HasNames names (set rows n (record row { back = Some seen }))
 HasNames-back names [] n row seen e h = tt
@@ -161,7 +161,7 @@ within names (r ∷ rows) zero o e = omega arith
 within names (r ∷ rows) (suc n) o e = let rest = within names rows n o e in omega (arith, rest)
 
 -- an opening whose object is out has a row
-pub out_within : (tells : Bool) (names : List ℕ) (rows : List Row) (n : ℕ) → IsOut (openings_told tells names rows) n → length rows ≤ n →
-    (s : State) → openings_told tells names rows ≡ option_map (with_back n s) (openings_told tells names rows)
+pub out_within : (reports : Bool) (names : List ℕ) (rows : List Row) (n : ℕ) → IsOut (openings_reported reports names rows) n → length rows ≤ n →
+    (s : State) → openings_reported reports names rows ≡ option_map (with_back n s) (openings_reported reports names rows)
 out_within false names rows n out le s = refl
 out_within true names rows n out le s = let lt = within names rows n _ out.2 in absurd (omega (arith, lt))

@@ -1,8 +1,8 @@
 -- How a link in memory stores its events: rows of numbers, and the bytes of all datagrams in one list.
 use Rattle.std.specs.Prelude.{◌≡◌, ℕ, ◌+◌, ◌≤◌, Option, None, Some, Bool, List, [], ◌∷◌, ◌++◌, length, take, drop, map, if◌then◌else◌}
 use Rattle.std.specs.List.{sum_by}
-use Rattle.feed_link.specs.Told.{NetEvent, Adds}
-use Rattle.feed_link.specs.Told.NetEvent.{Came, Silent, Ended, Timed, Went}
+use Rattle.outside_traits.specs.States.{NetEvent, Adds}
+use Rattle.outside_traits.specs.States.NetEvent.{Came, Silent, Ended, Timed, Went}
 use Rattle.memory_outside.specs.declared.book.Kind.{Kind}
 use Rattle.memory_outside.specs.declared.book.Kind.TheVariants.{Heard, Nothing, Over, Clock, Posted}
 use Rattle.memory_outside.specs.declared.book.Row.{Row}
@@ -38,8 +38,8 @@ HasEventRoom room events = (length events ≤ room.events) × (bytes_in events �
 abbrev pub event_in : List ℕ → Row → NetEvent
 event_in bytes row = event_with row.kind (take row.length (drop row.start bytes))
 
-abbrev pub events_told : Bool → List ℕ → List Row → Option (List NetEvent)
-events_told tells bytes rows = if tells then Some (map (event_in bytes) rows) else None
+abbrev pub events_reported : Bool → List ℕ → List Row → Option (List NetEvent)
+events_reported reports bytes rows = if reports then Some (map (event_in bytes) rows) else None
 
 -- what a book reports, and its room
 pub record Noted : Type 0 where
@@ -58,7 +58,7 @@ pub record AreRows (bytes : List ℕ) (rows : List Row) : Type 0 where
 -- one event more, reported as long as there is room
 pub record NotesEvent (before now : Noted) (event : NetEvent) : Type 0 where
   pub noted : Adds before.events now.events (event ∷ [])
-  pub told : (events : List NetEvent) → before.events ≡ Some events → HasEventRoom before.room (events ++ event ∷ []) →
+  pub reported : (events : List NetEvent) → before.events ≡ Some events → HasEventRoom before.room (events ++ event ∷ []) →
       now.events ≡ Some (events ++ event ∷ [])
   pub same_room : now.room ≡ before.room
 

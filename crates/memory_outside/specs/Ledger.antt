@@ -2,10 +2,10 @@
 use Rattle.std.specs.Prelude.{◌≡◌, ℕ, ◌+◌, ◌≤◌, Option, None, Some, IfSome, Bool, List, [], ◌∷◌, ◌++◌, length, take, drop, map, if◌then◌else◌}
 use Rattle.std.specs.Option.{option_map}
 use Rattle.std.specs.List.{sum_by}
-use Rattle.feed_link.specs.Told.{Adds}
-use Rattle.feed_link.specs.Openings.{Wanted, State, Opening, Room, HasRoom, with_back}
-use Rattle.feed_link.specs.Openings.Wanted.{LogOf, LinkAt}
-use Rattle.feed_link.specs.Openings.State.{OfLog, OfLink}
+use Rattle.outside_traits.specs.States.{Adds}
+use Rattle.outside_traits.specs.Openings.{Wanted, State, Opening, Room, HasRoom, with_back}
+use Rattle.outside_traits.specs.Openings.Wanted.{LogOf, LinkAt}
+use Rattle.outside_traits.specs.Openings.State.{OfLog, OfLink}
 use Rattle.memory_outside.specs.MemorySource.{source_state}
 use Rattle.memory_outside.specs.MemoryLink.{link_state}
 use Rattle.memory_outside.specs.declared.ledger.Port.{Port}
@@ -30,8 +30,8 @@ opening_of names row = record {
   back = option_map state_of row.back;
 }
 
-abbrev pub openings_told : Bool → List ℕ → List Row → Option (List Opening)
-openings_told tells names rows = if tells then Some (map (opening_of names) rows) else None
+abbrev pub openings_reported : Bool → List ℕ → List Row → Option (List Opening)
+openings_reported reports names rows = if reports then Some (map (opening_of names) rows) else None
 
 -- what an outside in memory reports of its openings, and its room for them
 pub record Book : Type 0 where
@@ -51,7 +51,7 @@ pub record AreRows (names : List ℕ) (rows : List Row) : Type 0 where
 -- one opening more, reported as long as there is room
 pub record Notes (before now : Book) (opening : Opening) : Type 0 where
   pub noted : Adds before.openings now.openings (opening ∷ [])
-  pub told : (openings : List Opening) → before.openings ≡ Some openings → HasRoom before.room (openings ++ opening ∷ []) →
+  pub reported : (openings : List Opening) → before.openings ≡ Some openings → HasRoom before.room (openings ++ opening ∷ []) →
       now.openings ≡ Some (openings ++ opening ∷ [])
   pub same_room : now.room ≡ before.room
 

@@ -1,7 +1,7 @@
 -- The hearings and moments that a link in memory is still to give, and what it gives next.
 use Rattle.std.specs.Prelude.{ℕ, List, [], ◌∷◌, drop, take, max}
-use Rattle.feed_link.specs.Told.{NetEvent, LinkState}
-use Rattle.feed_link.specs.Told.NetEvent.{Came, Silent, Ended}
+use Rattle.outside_traits.specs.States.{NetEvent, LinkState}
+use Rattle.outside_traits.specs.States.NetEvent.{Came, Silent, Ended}
 use Rattle.memory_outside.specs.Book.{Noted}
 use Rattle.memory_links.specs.declared.calls.Calls.{Calls}
 use Rattle.memory_outside.specs.declared.event.Planned.{Planned}
@@ -24,7 +24,7 @@ hearings_of s = drop s.heard s.hearings.items
 
 -- the moments to come
 abbrev pub moments_of : MemoryLink → List ℕ
-moments_of s = drop s.told s.moments.items
+moments_of s = drop s.reported s.moments.items
 
 -- the next hearing, or the end where none is left; an arrival is raised to the last moment or arrival
 abbrev pub next_event : ℕ → List Planned → NetEvent

@@ -4,7 +4,7 @@ use Rattle.std.specs.List.{position, remove}
 use Rattle.std.specs.Option.{is_none}
 use Rattle.std.specs.Str.{bytes_eq}
 use Rattle.std.specs.String.{string_bytes}
-use Rattle.feed_link.specs.Openings.{OutsideState}
+use Rattle.outside_traits.specs.Openings.{OutsideState}
 use Rattle.memory_outside.specs.MemorySource.{source_state, source_calls}
 use Rattle.memory_outside.specs.MemoryLink.{link_state, link_calls, link_book, hearings_of, moments_of}
 use Rattle.memory_links.specs.declared.calls.Calls.{Calls}

@@ -1,6 +1,6 @@
 -- What a log in memory reports, and its calls.
 use Rattle.std.specs.Prelude.{Some, drop}
-use Rattle.feed_link.specs.Told.{SourceState}
+use Rattle.outside_traits.specs.States.{SourceState}
 use Rattle.memory_links.specs.declared.calls.Calls.{Calls}
 use Rattle.memory_outside.specs.declared.memory_source.MemorySource.{MemorySource}
 

@@ -1,6 +1,6 @@
 -- The events of a link in memory, as it gives them to a test.
-use Rattle.feed_link.specs.Told.{NetEvent}
-use Rattle.feed_link.specs.Told.NetEvent.{Came, Silent, Ended, Timed, Went}
+use Rattle.outside_traits.specs.States.{NetEvent}
+use Rattle.outside_traits.specs.States.NetEvent.{Came, Silent, Ended, Timed, Went}
 use Rattle.memory_outside.specs.declared.event.LinkEvent.{LinkEvent}
 use Rattle.memory_outside.specs.declared.event.LinkEvent.TheVariants.{Datagram, Quiet, End, Moment, Sent}
 

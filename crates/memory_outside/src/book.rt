@@ -6,7 +6,7 @@ ghost use Rattle.memory_outside.specs.Book.{NotesEvent, IsNotedAs, bytes_of};
 ghost use Rattle.memory_outside.specs.Seen.{event_seen};
 
 use crate::LinkEvent;
-use feed_link::Address;
+use outside_traits::Address;
 use std::alloc::{AllocError, Global};
 use std::marker::Model;
 use tick_units::Local;
@@ -42,17 +42,17 @@ pub struct Book {
     bytes: Vec<u8>,
     rows: Vec<Row>,
     room: EventRoom,
-    tells: bool,
+    reports: bool,
 }
 
 impl Model for Book {
     ghost use Rattle.std.specs.Prelude.{◌≤◌, vec_capacity};
-    ghost use Rattle.memory_outside.specs.Book.{Noted, events_told, AreRows};
+    ghost use Rattle.memory_outside.specs.Book.{Noted, events_reported, AreRows};
 
     ghost Value = { Noted };
 
     ghost view = { λ s. record {
-      events = events_told s.tells s.bytes.items s.rows.items;
+      events = events_reported s.reports s.bytes.items s.rows.items;
       room = record { events = s.room.events; bytes = s.room.bytes };
     } };
 
@@ -70,7 +70,7 @@ impl Book {
             bytes: Vec::with_capacity(alloc, room.bytes)?,
             rows: Vec::with_capacity(alloc, room.events)?,
             room,
-            tells: true,
+            reports: true,
         })
     }
 
@@ -80,7 +80,7 @@ impl Book {
     {
         let room = self.room;
         if !note_row(&mut self.bytes, &mut self.rows, room, event) {
-            self.tells = false;
+            self.reports = false;
         }
     }
 
@@ -88,14 +88,14 @@ impl Book {
     pub fn count(&self) -> usize
         ensures { result ≡ length (unwrap_or self.now.events []) }
     {
-        if self.tells { self.rows.len() } else { 0 }
+        if self.reports { self.rows.len() } else { 0 }
     }
 
     /// The event at this place.
     pub fn get(&self, place: usize) -> Option<LinkEvent<'_>>
         ensures { option_map event_seen result ≡ slice_get (unwrap_or self.now.events []) place }
     {
-        if !self.tells || place >= self.rows.len() {
+        if !self.reports || place >= self.rows.len() {
             return None;
         }
         Some(row_at(&self.rows, place).event(&self.bytes))

@@ -4,7 +4,7 @@ ghost use Rattle.memory_outside.specs.Book.{event_with, bytes_of};
 ghost use Rattle.memory_outside.specs.Seen.{event_seen};
 
 use crate::book::Kind;
-use feed_link::Address;
+use outside_traits::Address;
 use tick_units::Local;
 
 /// A hearing that a link in memory will give.

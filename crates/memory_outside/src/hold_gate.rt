@@ -1,7 +1,7 @@
 // A gate that holds one worker until another has passed.
 ghost use Rattle.std.specs.Prelude.{◌≡◌};
 
-use feed_link::Gate;
+use outside_traits::Gate;
 use std::sync::{Mutex, Wait};
 use std::thread::yield_now;
 

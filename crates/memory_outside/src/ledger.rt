@@ -3,7 +3,7 @@ ghost use Rattle.std.specs.Prelude.{◌≡◌, ◌⊎◌, ◌+◌, ◌≤◌, �
 ghost use Rattle.std.specs.Bool.{OnTrue, OnFalse};
 ghost use Rattle.memory_outside.specs.declared.ledger.Row.{Row};
 ghost use Rattle.std.specs.Option.{option_map};
-ghost use Rattle.feed_link.specs.Openings.{IsNext, IsOut};
+ghost use Rattle.outside_traits.specs.Openings.{IsNext, IsOut};
 ghost use Rattle.memory_outside.specs.Ledger.{Notes, PutsBack, state_of, wanted_by};
 
 use crate::{MemoryLink, MemorySource};
@@ -49,17 +49,17 @@ pub struct Ledger {
     names: Vec<u8>,
     rows: Vec<Row>,
     room: Room,
-    tells: bool,
+    reports: bool,
 }
 
 impl Model for Ledger {
     ghost use Rattle.std.specs.Prelude.{◌≤◌, vec_capacity};
-    ghost use Rattle.memory_outside.specs.Ledger.{Book, openings_told, AreRows};
+    ghost use Rattle.memory_outside.specs.Ledger.{Book, openings_reported, AreRows};
 
     ghost Value = { Book };
 
     ghost view = { λ s. record {
-      openings = openings_told s.tells s.names.items s.rows.items;
+      openings = openings_reported s.reports s.names.items s.rows.items;
       room = record { openings = s.room.openings; names = s.room.names };
     } };
 
@@ -68,7 +68,7 @@ impl Model for Ledger {
 }
 
 impl Ledger {
-    ghost use Rattle.feed_link.specs.Openings.Wanted.{LogOf, LinkAt};
+    ghost use Rattle.outside_traits.specs.Openings.Wanted.{LogOf, LinkAt};
 
     /// An empty list with this room, which is taken here.
     pub fn new(alloc: Global, room: Room) -> Result<Ledger, AllocError>
@@ -82,7 +82,7 @@ impl Ledger {
             names: Vec::with_capacity(alloc, room.names)?,
             rows: Vec::with_capacity(alloc, room.openings)?,
             room,
-            tells: true,
+            reports: true,
         })
     }
 
@@ -126,7 +126,7 @@ impl Ledger {
     {
         let room = self.room;
         if !note_row(&mut self.names, &mut self.rows, room, name, port, opened) {
-            self.tells = false;
+            self.reports = false;
         }
     }
 

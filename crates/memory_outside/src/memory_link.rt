@@ -1,15 +1,15 @@
 // A link in memory.
 ghost use Rattle.std.specs.Prelude.{◌≡◌, ℕ, ◌≤◌, Some, [], not, is_ok, drop, take, length, max, slice_get, unwrap_or, IfOk, MatchResult};
 ghost use Rattle.std.specs.Option.{option_map};
-ghost use Rattle.feed_link.specs.Faults.{HasCause};
-ghost use Rattle.feed_link.specs.Links.{Hears, IsDeaf, TellsMoment, Sends};
+ghost use Rattle.outside_traits.specs.Faults.{HasCause};
+ghost use Rattle.outside_traits.specs.Links.{ReceivesNext, IsDeaf, ReportsMoment, Sends};
 ghost use Rattle.memory_outside.specs.Seen.{event_seen};
 ghost use Rattle.memory_links.specs.Calls.{AreStated, IsCalled, fails_next};
 
 use crate::book::{Book, EventRoom};
 use crate::{FakeOpen, LinkEvent, Planned};
-use feed_link::{Address, Arrival, Failed, Hearing, Link};
 use memory_links::Calls;
+use outside_traits::{Address, Arrival, Failed, Hearing, Link};
 use std::alloc::Global;
 use tick_units::Local;
 
@@ -21,7 +21,7 @@ pub struct MemoryLink {
     hearings: Vec<Planned>,
     heard: usize,
     moments: Vec<Local>,
-    told: usize,
+    reported: usize,
     calls: Calls,
     latest: Local,
     faults: u64,
@@ -38,7 +38,7 @@ fn later(a: Local, b: Local) -> Local
 }
 
 // Copies the first 1024 bytes of a datagram to the beginning of a piece, and returns how many there are.
-fn copy_front(piece: &mut [u8; 1024], bytes: &[u8]) -> usize
+fn copy_prefix(piece: &mut [u8; 1024], bytes: &[u8]) -> usize
     ensures copied { take result piece.new ≡ take 1024 bytes.now }
     ensures most { result ≤ 1024 }
 {
@@ -48,7 +48,7 @@ fn copy_front(piece: &mut [u8; 1024], bytes: &[u8]) -> usize
 }
 
 impl MemoryLink {
-    ghost use Rattle.feed_link.specs.Links.{event_of};
+    ghost use Rattle.outside_traits.specs.Links.{event_of};
     ghost use Rattle.memory_outside.specs.Book.{NotesEvent};
     ghost use Rattle.memory_outside.specs.MemoryLink.{link_state, link_calls, link_book, hearings_of, moments_of, next_event, next_moment};
 
@@ -73,7 +73,7 @@ impl MemoryLink {
             hearings,
             heard: 0,
             moments,
-            told: 0,
+            reported: 0,
             calls: Calls::new(fails),
             latest: Local::new(0).unwrap(),
             faults: 0,
@@ -101,19 +101,19 @@ impl MemoryLink {
     fn next_moment(&mut self) -> Local
         ensures moment { result ≡ next_moment self.old.latest (moments_of self.old) }
         ensures moments { moments_of self.new ≡ drop 1 (moments_of self.old) }
-        ensures same { self.new ≡ record self.old { told = self.new.told } }
+        ensures same { self.new ≡ record self.old { reported = self.new.reported } }
     {
-        if self.told >= self.moments.len() {
+        if self.reported >= self.moments.len() {
             return self.latest;
         }
-        let moment = self.moments[self.told];
-        self.told += 1;
+        let moment = self.moments[self.reported];
+        self.reported += 1;
         later(self.latest, moment)
     }
 
     // Gives the next planned hearing, or the end.
-    fn hear_next(&mut self, piece: &mut [u8; 1024]) -> Hearing
-        ensures heard { Hears (link_state self.old) (link_state self.new) result piece.new }
+    fn receive_next(&mut self, piece: &mut [u8; 1024]) -> Hearing
+        ensures heard { ReceivesNext (link_state self.old) (link_state self.new) result piece.new }
         ensures planned { event_of result piece.new ≡ next_event self.old.latest (hearings_of self.old) }
         ensures hearings { hearings_of self.new ≡ drop 1 (hearings_of self.old) }
         ensures noted { NotesEvent (link_book self.old) (link_book self.new) (event_of result piece.new) }
@@ -136,7 +136,7 @@ impl MemoryLink {
             Planned::Datagram { from, at, bytes } => {
                 let from = *from;
                 let at = later(self.latest, *at);
-                let length = copy_front(piece, bytes);
+                let length = copy_prefix(piece, bytes);
                 self.heard += 1;
                 self.latest = at;
                 self.book.note(&LinkEvent::Datagram {
@@ -152,9 +152,9 @@ impl MemoryLink {
 
 impl Link for MemoryLink {
     ghost use Rattle.std.specs.Prelude.{◌≡◌, ℕ, IfOk, MatchResult};
-    ghost use Rattle.feed_link.specs.Links.{event_of};
+    ghost use Rattle.outside_traits.specs.Links.{event_of};
     ghost use Rattle.memory_outside.specs.Book.{NotesEvent};
-    ghost use Rattle.feed_link.specs.Told.NetEvent.{Timed, Went};
+    ghost use Rattle.outside_traits.specs.States.NetEvent.{Timed, Went};
     ghost use Rattle.memory_outside.specs.MemoryLink.{link_state, link_calls, link_book, hearings_of, moments_of, next_event, next_moment};
 
     ghost state = { λ s. record { events = s.book.events; latest = s.latest; faults = s.faults } };
@@ -163,7 +163,7 @@ impl Link for MemoryLink {
 
     fn hear(&mut self, piece: &mut [u8; 1024]) -> Result<Hearing, Failed>
         ensures heard { MatchResult result
-            (λ hearing. Hears (link_state self.old) (link_state self.new) hearing piece.new)
+            (λ hearing. ReceivesNext (link_state self.old) (link_state self.new) hearing piece.new)
             (λ _. IsDeaf (link_state self.old) (link_state self.new)) }
         ensures cause { HasCause self.old.faults self.new.faults result }
         ensures number { self.new.opening ≡ self.old.opening }
@@ -176,18 +176,18 @@ impl Link for MemoryLink {
             (hearings_of self.new ≡ drop 1 (hearings_of self.old)))
             (λ _. hearings_of self.new ≡ hearings_of self.old) }
         ensures moments { moments_of self.new ≡ moments_of self.old }
-        ensures told { IfOk result
+        ensures reported { IfOk result
             (λ hearing. NotesEvent (link_book self.old) (link_book self.new) (event_of hearing piece.new)) }
     {
         if self.calls.next_fails() {
             self.faults = self.faults.saturating_add(1);
             return Err(Failed);
         }
-        Ok(self.hear_next(piece))
+        Ok(self.receive_next(piece))
     }
 
     fn moment(&mut self) -> Local
-        ensures told { TellsMoment (link_state self.old) (link_state self.new) result }
+        ensures reported { ReportsMoment (link_state self.old) (link_state self.new) result }
         ensures number { self.new.opening ≡ self.old.opening }
 
         // It gives the next stated moment.

@@ -6,8 +6,8 @@ ghost use Rattle.memory_links.specs.Calls.{AreStated, IsCalled, fails_next};
 
 use crate::ledger::{Ledger, Room, Seen};
 use crate::{MemoryLink, MemorySource};
-use feed_link::{Failed, Gate, Outside};
 use memory_links::Calls;
+use outside_traits::{Failed, Gate, Outside};
 use std::alloc::{AllocError, AllocFailed, Global};
 use std::snapshot::Snapshot;
 use tick_units::Local;
@@ -225,10 +225,10 @@ impl<G: Drop> MemoryOutside<G> {
 impl<G: Gate + Drop> Outside for MemoryOutside<G> {
     ghost use Rattle.std.specs.Prelude.{◌≡◌, ◌⊎◌, ◌∷◌, true, false, MatchResult, IfOk};
     ghost use Rattle.std.specs.Option.{is_none};
-    ghost use Rattle.feed_link.specs.Faults.{HasCause};
-    ghost use Rattle.feed_link.specs.Openings.{GrowsBy, IsNext, IsOut, GivesBack, answered, failed};
-    ghost use Rattle.feed_link.specs.Openings.Wanted.{LogOf, LinkAt};
-    ghost use Rattle.feed_link.specs.Openings.State.{OfLog, OfLink};
+    ghost use Rattle.outside_traits.specs.Faults.{HasCause};
+    ghost use Rattle.outside_traits.specs.Openings.{GrowsBy, IsNext, IsOut, GivesBack, answered, failed};
+    ghost use Rattle.outside_traits.specs.Openings.Wanted.{LogOf, LinkAt};
+    ghost use Rattle.outside_traits.specs.Openings.State.{OfLog, OfLink};
     ghost use Rattle.memory_outside.specs.MemorySource.{source_state};
     ghost use Rattle.memory_outside.specs.MemoryLink.{link_state};
     ghost use Rattle.memory_outside.specs.MemoryOutside.{HandsOut, HandsOutLink, TakesNone, TakesNoLink, outside_state, outside_calls, logs_of, links_of, next_link, gate_of, is_gate_out, put_at};

@@ -1,11 +1,11 @@
 // A log in memory.
 ghost use Rattle.std.specs.Prelude.{◌≡◌, ℕ, ◌≤◌, Some, drop, length, not, is_ok, vec_len, IfOk};
-ghost use Rattle.feed_link.specs.Faults.{HasCause};
-ghost use Rattle.feed_link.specs.Told.{Reads};
+ghost use Rattle.outside_traits.specs.Faults.{HasCause};
+ghost use Rattle.outside_traits.specs.States.{Reads};
 ghost use Rattle.memory_links.specs.Calls.{AreStated, IsCalled, fails_next};
 
-use feed_link::{Failed, Source};
 use memory_links::Calls;
+use outside_traits::{Failed, Source};
 
 /// A log in memory, of which stated calls of `read` fail.
 #[derive(Drop)]

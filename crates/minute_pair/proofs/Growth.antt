@@ -52,11 +52,11 @@ grow_from code marks (mark ∷ more) h =
       ap (segments_by code) (sym (append_assoc marks (mark ∷ []) more)) ∙ rest.1 ∙ ap (λ (ss : List Segment). ss ++ rest.0) one.1 ∙ append_assoc (segments_by code marks) one.0 rest.0,
     )
 
-ends_of : (code : Code) (front marks : List Mark) → Ends code front → Ends code (front ++ marks)
-ends_of code front [] h = record { done = h.done; current = h.current; pieces = ap (cut code None) (append-nil front) ∙ h.pieces; ends = h.ends ∙ ap (last_or None) (sym (append-nil front)) }
-ends_of code front (mark ∷ marks) h =
-    let rest = ends_of code (front ++ mark ∷ []) marks (ends_on code front mark h) in
-    let regroup = append_assoc front (mark ∷ []) marks in
+ends_of : (code : Code) (prefix marks : List Mark) → Ends code prefix → Ends code (prefix ++ marks)
+ends_of code prefix [] h = record { done = h.done; current = h.current; pieces = ap (cut code None) (append-nil prefix) ∙ h.pieces; ends = h.ends ∙ ap (last_or None) (sym (append-nil prefix)) }
+ends_of code prefix (mark ∷ marks) h =
+    let rest = ends_of code (prefix ++ mark ∷ []) marks (ends_on code prefix mark h) in
+    let regroup = append_assoc prefix (mark ∷ []) marks in
     record { done = rest.done; current = rest.current; pieces = ap (cut code None) (sym regroup) ∙ rest.pieces; ends = rest.ends ∙ ap (last_or None) regroup }
 
 pub segments_grow : (code : Code) (marks more : List Mark) → (segments : List Segment) × (segments_by code (marks ++ more) ≡ segments_by code marks ++ segments)

@@ -11,7 +11,7 @@ use Rattle.tick_units.specs.declared.verdicts.Coded.{Coded}
 use Rattle.tick_units.specs.declared.verdicts.Heard.{Heard}
 use Rattle.tick_units.specs.declared.verdicts.Kind.{Kind}
 use Rattle.tick_units.specs.declared.verdicts.Kind.TheVariants.{Verdict, Differs}
-use Rattle.minute_pair.specs.Answers.{judged, judged_by, is_apart, apart_of, agreed_leap, kind_of_both, kind_of_valid, kind_behind, kind_alone, kind_after, answer_after, answers_after, answers_by}
+use Rattle.minute_pair.specs.Answers.{judged, judged_by, is_apart, apart_of, agreed_leap, kind_of_both, kind_of_valid, kind_following, kind_alone, kind_after, answer_after, answers_after, answers_by}
 use Rattle.minute_pair.specs.Pairing.{before_by_judged, before_of, before_of_closed, both_by, valid_by, judged_kind, answer_by}
 use Rattle.frame_rules.proofs.AddingLaws.{last_push}
 use Rattle.minute_pair.specs.declared.answers.Before.TheVariants.{Nothing}
@@ -46,10 +46,10 @@ valid_is : (code : Code) (before now : Segment) (closed : Closed) (said : Result
 valid_is code before now closed (Ok was) is close leap = both_is code before now closed was is close leap
 valid_is code before now closed (Err broken) is close leap = refl
 
-behind_is : (code : Code) (before now : Segment) (closed : Closed) (said : Result Coded Broken) → closed.close ≡ now.close → closed.has_leap ≡ code.has_leap_second now.marks →
-    judged_kind (before_by_judged before.close (judged code before)) closed said ≡ kind_behind code before now said
-behind_is code before now closed (Ok is) close leap = valid_is code before now closed (judged code before) is close leap
-behind_is code before now closed (Err broken) close leap = refl
+after_is : (code : Code) (before now : Segment) (closed : Closed) (said : Result Coded Broken) → closed.close ≡ now.close → closed.has_leap ≡ code.has_leap_second now.marks →
+    judged_kind (before_by_judged before.close (judged code before)) closed said ≡ kind_following code before now said
+after_is code before now closed (Ok is) close leap = valid_is code before now closed (judged code before) is close leap
+after_is code before now closed (Err broken) close leap = refl
 
 alone_is : (closed : Closed) (said : Result Coded Broken) → judged_kind Nothing closed said ≡ kind_alone said
 alone_is closed (Ok is) = refl
@@ -60,7 +60,7 @@ pub answer_is : (code : Code) (before : Option Segment) (now : Segment) (closed 
     answer_by (before_of code before) closed ≡ kind_after code before now
 answer_is code None now closed close says leap = ap (λ (said : Result Coded Broken). judged_kind Nothing closed said) says ∙ alone_is closed (judged code now)
 answer_is code (Some before) now closed close says leap =
-    ap (λ (said : Result Coded Broken). judged_kind (before_by_judged before.close (judged code before)) closed said) says ∙ behind_is code before now closed (judged code now) close leap
+    ap (λ (said : Result Coded Broken). judged_kind (before_by_judged before.close (judged code before)) closed said) says ∙ after_is code before now closed (judged code now) close leap
 
 abbrev answer_at : ℕ → Kind → Heard
 answer_at at kind = record { at = at; kind = kind }

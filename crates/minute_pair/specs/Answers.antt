@@ -45,9 +45,9 @@ abbrev pub kind_of_valid : Code → Segment → Result Coded Broken → Segment 
 kind_of_valid code before (Err broken) now is = Lone is.minute
 kind_of_valid code before (Ok was) now is = kind_of_both code before now was is
 
-abbrev pub kind_behind : Code → Segment → Segment → Result Coded Broken → Kind
-kind_behind code before now (Err broken) = Refused broken.rule
-kind_behind code before now (Ok is) = kind_of_valid code before (judged code before) now is
+abbrev pub kind_following : Code → Segment → Segment → Result Coded Broken → Kind
+kind_following code before now (Err broken) = Refused broken.rule
+kind_following code before now (Ok is) = kind_of_valid code before (judged code before) now is
 
 abbrev pub kind_alone : Result Coded Broken → Kind
 kind_alone (Err broken) = Refused broken.rule
@@ -56,7 +56,7 @@ kind_alone (Ok is) = Lone is.minute
 -- the answer to a segment, by the one just before it if there is one
 abbrev pub kind_after : Code → Option Segment → Segment → Kind
 kind_after code None now = kind_alone (judged code now)
-kind_after code (Some before) now = kind_behind code before now (judged code now)
+kind_after code (Some before) now = kind_following code before now (judged code now)
 
 abbrev pub answer_after : Code → Option Segment → Segment → Heard
 answer_after code before now = record { at = now.close; kind = kind_after code before now }

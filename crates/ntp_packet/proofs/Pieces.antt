@@ -20,11 +20,11 @@ pub number_at : (place n : ℕ) (xs : List ℕ) → place + n ≤ length xs → 
 number_at place n xs room = big_from-take 0 n (length xs - place) (drop place xs) (omega arith) ∙ (rw add-zero at (big_from-drop 0 n place xs))
 
 -- where a piece of k places now holds the k numbers of ys, these stand after the beginning
-pub front_more : (xs ys piece : List ℕ) (front k : ℕ) → front + k ≤ length xs → length ys ≡ k → piece ≡ ys ++ drop k (mid_of front (front + k - front) xs) → take (front + k) (put_mid front (front + k - front) xs piece) ≡ take front xs ++ ys
-front_more xs ys piece front k room long is =
-    let few : length (mid_of front (front + k - front) xs) ≤ k = omega (arith, length-take {A = ℕ}) in
+pub prefix_more : (xs ys piece : List ℕ) (start k : ℕ) → start + k ≤ length xs → length ys ≡ k → piece ≡ ys ++ drop k (mid_of start (start + k - start) xs) → take (start + k) (put_mid start (start + k - start) xs piece) ≡ take start xs ++ ys
+prefix_more xs ys piece start k room long is =
+    let few : length (mid_of start (start + k - start) xs) ≤ k = omega (arith, length-take {A = ℕ}) in
     let whole : piece ≡ ys = is ∙ ap (λ (zs : List ℕ). ys ++ zs) (drop_all k _ few) ∙ append-nil ys in
-    take-put_mid front (front + k - front) xs piece (front + k) (omega (arith, ap length whole)) (omega arith) ∙ ap (λ (zs : List ℕ). take front xs ++ zs) whole
+    take-put_mid start (start + k - start) xs piece (start + k) (omega (arith, ap length whole)) (omega arith) ∙ ap (λ (zs : List ℕ). take start xs ++ zs) whole
 
 -- the first byte, as shifts and `|` make it of its three parts
 pub packed : (leap version mode : ℕ) → leap < 4 → version < 8 → mode < 8 → bit_or (bit_or (leap * 64 % 256) (version * 8 % 256)) mode ≡ leap * 64 + version * 8 + mode

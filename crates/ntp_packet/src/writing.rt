@@ -7,21 +7,21 @@ use crate::{HEADER_LENGTH, Header};
 use byteorder::{BigEndian, ByteOrder};
 
 // Writes a number of four bytes after those at the beginning.
-fn put_u32(out: &mut [u8; HEADER_LENGTH], front: usize, n: u32)
-    requires { front + 4 ≤ 48 }
-    ensures piece { take (front + 4) out.new ≡ take front out.old ++ big_bytes 4 n }
+fn put_u32(out: &mut [u8; HEADER_LENGTH], start: usize, n: u32)
+    requires { start + 4 ≤ 48 }
+    ensures piece { take (start + 4) out.new ≡ take start out.old ++ big_bytes 4 n }
     ensures fits { n < 2 ^ 32 }
 {
-    BigEndian::write_u32(&mut out[front..front + 4], n);
+    BigEndian::write_u32(&mut out[start..start + 4], n);
 }
 
 // Writes a number of eight bytes after those at the beginning.
-fn put_u64(out: &mut [u8; HEADER_LENGTH], front: usize, n: u64)
-    requires { front + 8 ≤ 48 }
-    ensures piece { take (front + 8) out.new ≡ take front out.old ++ big_bytes 8 n }
+fn put_u64(out: &mut [u8; HEADER_LENGTH], start: usize, n: u64)
+    requires { start + 8 ≤ 48 }
+    ensures piece { take (start + 8) out.new ≡ take start out.old ++ big_bytes 8 n }
     ensures fits { n < 2 ^ 64 }
 {
-    BigEndian::write_u64(&mut out[front..front + 8], n);
+    BigEndian::write_u64(&mut out[start..start + 8], n);
 }
 
 /// Writes the 48 bytes of a header.

@@ -21,5 +21,5 @@ none_differs differing own other =
 -- one byte more of each list
 pub one_more : (differing own other : ℕ) (owns others all all_others : List ℕ) (same : Bool) → all ≡ own ∷ owns → all_others ≡ other ∷ others → (length all ≡ length all_others) × ((differing == 0 && bytes_eq all all_others) ≡ same) → (length owns ≡ length others) × ((bit_or differing (bit_xor own other) == 0 && bytes_eq owns others) ≡ same)
 one_more differing own other owns others all all_others same first second so_far =
-    let front : (differing == 0 && (own == other && bytes_eq owns others)) ≡ same = rw (first, second) at so_far.1 in
-    (omega (arith, so_far.0, ap length first, ap length second), ap (λ b. b && bytes_eq owns others) (none_differs differing own other) ∙ and_assoc (differing == 0) (own == other) (bytes_eq owns others) ∙ front)
+    let prefix : (differing == 0 && (own == other && bytes_eq owns others)) ≡ same = rw (first, second) at so_far.1 in
+    (omega (arith, so_far.0, ap length first, ap length second), ap (λ b. b && bytes_eq owns others) (none_differs differing own other) ∙ and_assoc (differing == 0) (own == other) (bytes_eq owns others) ∙ prefix)

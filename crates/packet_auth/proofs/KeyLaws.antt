@@ -41,9 +41,9 @@ id-named : (d : List ℕ) → big_from 0 4 (take 4 (drop 48 d)) ≡ big_from 48 
 id-named d = big_from-take 0 4 4 (drop 48 d) (omega arith) ∙ big_from-drop 0 4 48 d
 
 -- a datagram in its three parts: the header, the identifier and the digest
-pub record IsParted (d front named made : List ℕ) : Type 0 where
+pub record IsParted (d prefix named made : List ℕ) : Type 0 where
   pub long : length d ≡ 68
-  pub header : front ≡ take 48 d
+  pub header : prefix ≡ take 48 d
   pub name : named ≡ take 4 (drop 48 d)
   pub claimed : made ≡ drop 4 (drop 48 d)
 
@@ -55,8 +55,8 @@ some-id false id = refl
 pub authentic-by : (keys : List Key) (d header name claimed : List ℕ) (id : ℕ) (found : Bool) → IsParted d header name claimed → id ≡ big_from 0 4 name → found ≡ list_any (λ key. (key_fields key).id == id && bytes_eq (digest (key_fields key).secret header) claimed) keys → authentic (map key_fields keys) d ≡ then_some found id
 authentic-by keys d header name claimed id found parted named any =
     let names : id ≡ big_from 48 4 d = named ∙ ap (big_from 0 4) parted.name ∙ id-named d in
-    let behind : claimed ≡ drop 52 d = parted.claimed ∙ drop-drop 4 48 d in
-    let all : found ≡ list_any (λ key. (key_fields key).id == big_from 48 4 d && bytes_eq (digest (key_fields key).secret (take 48 d)) (drop 52 d)) keys = rw (parted.header, behind, names) at any in
+    let later : claimed ≡ drop 52 d = parted.claimed ∙ drop-drop 4 48 d in
+    let all : found ≡ list_any (λ key. (key_fields key).id == big_from 48 4 d && bytes_eq (digest (key_fields key).secret (take 48 d)) (drop 52 d)) keys = rw (parted.header, later, names) at any in
     rw (parted.long, list_any-map (vouches d) key_fields keys, ← all, ← names) (some-id found id)
 
 -- one of the keys has the identifier

@@ -77,8 +77,8 @@ impl KeyRing {
         if datagram.len() != SEALED_LENGTH {
             return None;
         }
-        let (header, behind) = datagram.split_at(HEADER_LENGTH);
-        let (id, claimed) = behind.split_at(DIGEST_PLACE - HEADER_LENGTH);
+        let (header, later) = datagram.split_at(HEADER_LENGTH);
+        let (id, claimed) = later.split_at(DIGEST_PLACE - HEADER_LENGTH);
         let id = BigEndian::read_u32(id);
         vouches(self.keys(), id, header, claimed).then_some(id)
     }

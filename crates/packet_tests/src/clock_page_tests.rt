@@ -117,7 +117,7 @@ fn an_offset_of_two_words(rt: HostRuntime) {
 
 // A page that is not synchronised has no rate.
 #[test]
-fn a_rate_where_nothing_tells_the_time(rt: HostRuntime) {
+fn a_rate_where_nothing_reports_the_time(rt: HostRuntime) {
     same(&rt, Page::of_words(unsynchronised_words(1)), None);
 }
 
@@ -133,7 +133,7 @@ fn rates_and_their_words(rt: HostRuntime) {
 }
 
 // At a moment a page gives this time, as its 64 bits.
-fn tells(rt: &impl Abort, page: &Page, at: u64, bits: u64)
+fn reports(rt: &impl Abort, page: &Page, at: u64, bits: u64)
     requires { at < 2 ^ 50 }
 {
     let found = page.time_at(moment(at));
@@ -145,18 +145,18 @@ fn tells(rt: &impl Abort, page: &Page, at: u64, bits: u64)
 fn the_time_follows_the_rate(rt: HostRuntime) {
     let gains = of_2026_with(0, 53_687);
     let loses = of_2026_with(0, -53_687);
-    tells(&rt, &gains, 301_000_000, 0xed00_e12f_0000_0000);
-    tells(&rt, &loses, 301_000_000, 0xed00_e12f_0000_0000);
-    tells(&rt, &gains, 302_000_000, 0xed00_e130_0000_0000);
-    tells(&rt, &gains, 302_000_001, 0xed00_e130_0000_10c6);
-    tells(&rt, &loses, 302_000_001, 0xed00_e130_0000_10c5);
-    tells(&rt, &gains, 303_000_000, 0xed00_e131_0000_d1b7);
-    tells(&rt, &loses, 303_000_000, 0xed00_e130_ffff_2e49);
-    tells(&rt, &loses, 312_500_000, 0xed00_e13a_7ff7_65fe);
+    reports(&rt, &gains, 301_000_000, 0xed00_e12f_0000_0000);
+    reports(&rt, &loses, 301_000_000, 0xed00_e12f_0000_0000);
+    reports(&rt, &gains, 302_000_000, 0xed00_e130_0000_0000);
+    reports(&rt, &gains, 302_000_001, 0xed00_e130_0000_10c6);
+    reports(&rt, &loses, 302_000_001, 0xed00_e130_0000_10c5);
+    reports(&rt, &gains, 303_000_000, 0xed00_e131_0000_d1b7);
+    reports(&rt, &loses, 303_000_000, 0xed00_e130_ffff_2e49);
+    reports(&rt, &loses, 312_500_000, 0xed00_e13a_7ff7_65fe);
     let most = of_2026_with(0, 2_147_483);
-    tells(&rt, &most, (1 << 50) - 1, 0x3025_558a_79a5_125d);
+    reports(&rt, &most, (1 << 50) - 1, 0x3025_558a_79a5_125d);
     let least = with_rate(Span::from(0), 0, -2_147_483);
-    tells(&rt, &least, (1 << 50) - 1, 0x4313_477d_35c7_35c8);
+    reports(&rt, &least, (1 << 50) - 1, 0x4313_477d_35c7_35c8);
 }
 
 // The leap indicator of a page at a moment.
@@ -210,8 +210,8 @@ fn a_page_is_good_until_its_moment(rt: HostRuntime) {
     is_good(&rt, &page, 902_000_000, false);
     warns(&rt, &page, 901_999_999, 0);
     warns(&rt, &page, 902_000_000, 3);
-    tells(&rt, &page, 303_000_000, 0xed00_e131_0000_0000);
-    tells(&rt, &page, 303_000_500, 0xed00_e131_0020_c49b);
+    reports(&rt, &page, 303_000_000, 0xed00_e131_0000_0000);
+    reports(&rt, &page, 303_000_500, 0xed00_e131_0020_c49b);
 }
 
 // At 303 s it is second 3976257841 since 1900, and stays so for a whole second.

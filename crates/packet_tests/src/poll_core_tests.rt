@@ -3,8 +3,8 @@ ghost use Rattle.std.specs.Prelude.{◌≡◌, ◌<◌, Some, None};
 ghost use Rattle.poll_core.specs.Polling.{asked_at};
 
 use crate::shared::{longer, moment, same};
-use feed_link::Address;
 use memory_outside::ANSWER;
+use outside_traits::Address;
 use poll_core::{Poll, PollRefusal};
 use std::process::Abort;
 use tick_units::{Local, Sample, Short, Span, Stamp};

@@ -64,26 +64,26 @@ takes_in m v w b none = record {
   length = b.length ∙ ap length (sym (other_list v w none));
 }
 
-pub told_of_feed : (feed n : ℕ) (v w : View) → IsFeed feed n w → Holds (both v w) → IsTrueOf v.list (claim_of w)
-told_of_feed feed n v w f h =
+pub reported_of_feed : (feed n : ℕ) (v w : View) → IsFeed feed n w → Holds (both v w) → IsTrueOf v.list (claim_of w)
+reported_of_feed feed n v w f h =
     let P = IsTrueOf (both v w).list in
     let feeds : All P w.feeds = all_left P w.feeds w.gathered (all_right P v.gathered (w.feeds ++ w.gathered) h.gathered) in
     subst (λ l. IsTrueOf l (claim_of w)) (other_list v w f.baton) (All-head P (claim_of w) [] (subst (λ cs. All P cs) f.feeds feeds))
 
-pub told_of_reader : (m n : ℕ) (v w : View) → IsBaton m v → IsReader n w → Holds (both v w) → All (IsReading (key_of v) v.list) w.readings
-told_of_reader m n v w b r h =
+pub reported_of_reader : (m n : ℕ) (v w : View) → IsBaton m v → IsReader n w → Holds (both v w) → All (IsReading (key_of v) v.list) w.readings
+reported_of_reader m n v w b r h =
     subst (λ (s : SettingsFields). All (IsReading s v.list) w.readings) (other_settings v w r.baton)
     (subst (λ (l : List Entry). All (IsReading (both v w).settings l) w.readings) (other_list v w r.baton) (all_right (IsReading (both v w).settings (both v w).list) v.readings w.readings h.readings))
 
 pub seen_of_reader : (n : ℕ) (v w : View) → IsReader n w → Holds (both v w) → w.seen ≤ length v.list
 seen_of_reader n v w r h = let e : length (both v w).list ≡ length v.list = ap length (other_list v w r.baton) in let s = h.seen in omega arith
 
-pub told_before : (feed n m : ℕ) (v w : View) → IsFeed feed n v → IsBaton m w → Holds (both v w) → IsPrefix (claim_of v).seen w.list
-told_before feed n m v w f b h =
+pub reported_before : (feed n m : ℕ) (v w : View) → IsFeed feed n v → IsBaton m w → Holds (both v w) → IsPrefix (claim_of v).seen w.list
+reported_before feed n m v w f b h =
     let P = IsTrueOf (both v w).list in
     subst (λ l. IsPrefix (claim_of v).seen l) (both_list v w b.baton) (All-head P (claim_of v) [] (subst (λ cs. All P cs) f.feeds h.feeds)).seen
 
-pub told_tally : (n : ℕ) (v w : View) → IsReader n w → Holds (both v w) → IsTally (length v.list) (w.watch.torn, w.watch.greatest)
-told_tally n v w r h =
+pub reported_tally : (n : ℕ) (v w : View) → IsReader n w → Holds (both v w) → IsTally (length v.list) (w.watch.torn, w.watch.greatest)
+reported_tally n v w r h =
     let P = IsTally (length (both v w).list) in
     subst (λ (l : List Entry). IsTally (length l) (w.watch.torn, w.watch.greatest)) (other_list v w r.baton) (All-head P (w.watch.torn, w.watch.greatest) w.tallies (all_right P v.tallies ((w.watch.torn, w.watch.greatest) ∷ w.tallies) h.tallies))

@@ -40,8 +40,8 @@ forked s x views by left right o given' home' seat' le most others fit_left fit_
   fits = on_fork (λ k u. Fits s x (roll o.log given' home' seat') k u) views by left right (λ k u n lt e. others k u n lt (o.fits k u e)) fit_left fit_right;
 }
 
-held_front : (views : List View) (seat by : ℕ) (v left right : View) → get_elem? views by ≡ some v → left.baton ≡ v.baton → HoldsBaton views seat → HoldsBaton (set views by left ++ right ∷ []) seat
-held_front views seat by v left right at same h =
+held_prefix : (views : List View) (seat by : ℕ) (v left right : View) → get_elem? views by ≡ some v → left.baton ≡ v.baton → HoldsBaton views seat → HoldsBaton (set views by left ++ right ∷ []) seat
+held_prefix views seat by v left right at same h =
     let t = held_set views seat by v left at same h in (t.0, at_longer (set views by left) (right ∷ []) seat t.0 t.1, t.2)
 
 held_back : (views : List View) (by : ℕ) (left right : View) → right.baton ≡ true → HoldsBaton (set views by left ++ right ∷ []) (length views)
@@ -56,7 +56,7 @@ gives_reader s by v live st o at =
     let f = o.fits by v at in
     forked s st.words st.views by v (emptied v) o o.given o.home o.seat (le_refl o.given) o.counted (λ k u _ _ g. g) f
     (blank s st.words o.log o.given o.home o.seat (length st.views) v (f.keyed live))
-    (held_front st.views o.seat by v v (emptied v) at refl o.holder)
+    (held_prefix st.views o.seat by v v (emptied v) at refl o.holder)
 
 seen_within : (log : List Entry) (given : ℕ) (home : ℕ → ℕ) (place : ℕ) (cs : List Claim) → All (Stands log given home place) cs → seen_by cs ≤ length log
 seen_within log given home place [] all = omega arith
@@ -69,7 +69,7 @@ gives_receipt s by v live st o at =
     let f = o.fits by v at in
     forked s st.words st.views by v (receipt_of v) o o.given o.home o.seat (le_refl o.given) o.counted (λ k u _ _ g. g) f
     (record { keyed = (λ _. f.keyed live); baton = (λ q. absurd (off q)); seen = seen_within o.log o.given o.home (suc by) v.feeds f.feeds; feeds = All-nil _; gathered = All-nil _; readings = All-nil _; watch = quiet st.words (length o.log) (seen_by v.feeds); tallies = All-nil _ })
-    (held_front st.views o.seat by v v (receipt_of v) at refl o.holder)
+    (held_prefix st.views o.seat by v v (receipt_of v) at refl o.holder)
 
 none_of : (n : ℕ) (log : List Entry) → All (λ (e : Entry). e.feed < n) log → [] ≡ of_feed n log
 none_of n [] all = refl
@@ -98,7 +98,7 @@ gives_feed s by v live has room st o at =
     (λ k u apart lt t. shift s x o.log o.given g' o.home home' o.seat o.seat k k u (omega arith) (λ m less is. kept m less ∙ is) (λ m less is. kept m less ∙ is) (λ _ here. absurd (apart (here ∙ sym b.0))) t)
     (record { keyed = f.keyed; baton = (λ _. (b.0, b.1, ap (λ (m : ℕ). m + 1) b.2, b.3)); seen = f.seen; feeds = moved_claims o.log o.given g' o.home home' (suc by) (suc by) (omega arith) (λ m less is. kept m less ∙ is) v.feeds f.feeds; gathered = moved_claims o.log o.given g' o.home home' 0 0 (omega arith) (λ m less is. kept m less ∙ is) v.gathered f.gathered; readings = f.readings; watch = f.watch; tallies = f.tallies })
     (record { keyed = (λ _. keyed); baton = (λ q. absurd (off q)); seen = omega arith; feeds = All-cons (Stands o.log g' home' (suc n)) (new_claim v.given) [] claim (All-nil _); gathered = All-nil _; readings = All-nil _; watch = quiet x (length o.log) 0; tallies = All-nil _ })
-    (held_front views o.seat by v (one_given v) (new_feed v) at refl o.holder)
+    (held_prefix views o.seat by v (one_given v) (new_feed v) at refl o.holder)
 
 pub hands_back : (s : SettingsFields) (by : ℕ) (v : View) → v.spent ≡ false → v.baton ≡ true → Splits (Kept s) by v (without_baton v) (baton_of v)
 hands_back s by v live has st o at =

@@ -6,7 +6,7 @@ use Rattle.clock_page.specs.Page.{AreWords, IsPage, PageFields, words}
 use Rattle.page_cell.specs.declared.view.View.{View}
 use Rattle.page_cell.specs.Passes.{IsResting}
 use Rattle.page_cell.specs.Readings.{IsRising, ReadsAgain, ReadsPage}
-use Rattle.page_cell.specs.Tries.{ReadsOnce, TellsTry, Tried}
+use Rattle.page_cell.specs.Tries.{ReadsOnce, ReportsTry, Tried}
 use Rattle.page_cell.specs.Views.{begins, fails_at, succeeds, with_loaded}
 
 pub tried_none : (v : View) → IsResting v → Tried 0 v v
@@ -92,16 +92,16 @@ tried_ok i n ten v w lt r t later great page =
     }
 
 -- the same count twice ends the call
-pub try-same : (i first second : ℕ) (ten : List ℕ) (v w x : View) → i < 4 → IsResting v → Tried i v w → w.watch.greatest ≤ first → (second == first) ≡ true → TellsTry first second ten w x → ReadsOnce v first ten x
-try-same i first second ten v w x lt r t great is told =
-    let a = subst (λ (b : Bool). MatchBool b ((x ≡ succeeds (with_loaded ten 10 (begins first w))) × (w.seen ≤ first) × ((p : PageFields) × AreWords ten p)) ((x ≡ fails_at second (with_loaded ten 10 (begins first w))) × (w.seen ≤ first) × (first < second))) is told in
+pub try-same : (i first second : ℕ) (ten : List ℕ) (v w x : View) → i < 4 → IsResting v → Tried i v w → w.watch.greatest ≤ first → (second == first) ≡ true → ReportsTry first second ten w x → ReadsOnce v first ten x
+try-same i first second ten v w x lt r t great is reported =
+    let a = subst (λ (b : Bool). MatchBool b ((x ≡ succeeds (with_loaded ten 10 (begins first w))) × (w.seen ≤ first) × ((p : PageFields) × AreWords ten p)) ((x ≡ fails_at second (with_loaded ten 10 (begins first w))) × (w.seen ≤ first) × (first < second))) is reported in
     subst (ReadsOnce v first ten) (sym a.0) (tried_ok i first ten v w lt r t a.1 great a.2)
 
 -- another count is one failed try more
-pub try-other : (i first second : ℕ) (ten : List ℕ) (v w x : View) → i < 4 → Tried i v w → w.watch.greatest ≤ first → (second == first) ≡ false → TellsTry first second ten w x
-    → Tried (i + 1) v x × ((front : List (ℕ × ℕ)) × (x.watch.pairs ≡ front ++ (first, second) ∷ []))
-try-other i first second ten v w x lt t great is told =
-    let a = subst (λ (b : Bool). MatchBool b ((x ≡ succeeds (with_loaded ten 10 (begins first w))) × (w.seen ≤ first) × ((p : PageFields) × AreWords ten p)) ((x ≡ fails_at second (with_loaded ten 10 (begins first w))) × (w.seen ≤ first) × (first < second))) is told in
+pub try-other : (i first second : ℕ) (ten : List ℕ) (v w x : View) → i < 4 → Tried i v w → w.watch.greatest ≤ first → (second == first) ≡ false → ReportsTry first second ten w x
+    → Tried (i + 1) v x × ((prefix : List (ℕ × ℕ)) × (x.watch.pairs ≡ prefix ++ (first, second) ∷ []))
+try-other i first second ten v w x lt t great is reported =
+    let a = subst (λ (b : Bool). MatchBool b ((x ≡ succeeds (with_loaded ten 10 (begins first w))) × (w.seen ≤ first) × ((p : PageFields) × AreWords ten p)) ((x ≡ fails_at second (with_loaded ten 10 (begins first w))) × (w.seen ≤ first) × (first < second))) is reported in
     (subst (Tried (i + 1) v) (sym a.0) (tried_more i first second ten v w lt a.1 a.2 great t), (pairs_of w, ap (λ (u : View). u.watch.pairs) a.0))
 
 -- what callers learn of a call that read a page
@@ -112,7 +112,7 @@ reads-page n p v w r page =
       later = subst (λ (m : ℕ). v.seen ≤ m) (sym seen) r.later;
       reading = ap (λ (u : View). u.readings) r.same ∙ ap (λ (m : ℕ). v.readings ++ (m, words p) ∷ []) (sym seen);
       page = page;
-      equal = subst (λ (m : ℕ). (front : List (ℕ × ℕ)) × (w.watch.pairs ≡ front ++ (m, m) ∷ []) × All IsRising front) (sym seen) r.equal;
+      equal = subst (λ (m : ℕ). (prefix : List (ℕ × ℕ)) × (w.watch.pairs ≡ prefix ++ (m, m) ∷ []) × All IsRising prefix) (sym seen) r.equal;
       tries = r.most;
       loads = r.loads;
       torn = r.torn;
@@ -120,7 +120,7 @@ reads-page n p v w r page =
     }
 
 -- and of one that didn't
-pub reads-again : (first second : ℕ) (v w : View) → Tried 4 v w → ((front : List (ℕ × ℕ)) × (w.watch.pairs ≡ front ++ (first, second) ∷ [])) → ReadsAgain v w first second
+pub reads-again : (first second : ℕ) (v w : View) → Tried 4 v w → ((prefix : List (ℕ × ℕ)) × (w.watch.pairs ≡ prefix ++ (first, second) ∷ [])) → ReadsAgain v w first second
 reads-again first second v w t last = record {
   seen = ap (λ (u : View). u.seen) t.same;
   readings = ap (λ (u : View). u.readings) t.same;

@@ -22,17 +22,17 @@ pub off : false ≡ true → ⊥
 off e = true≢false (sym e)
 
 -- what a load owes, without the table's own words
-pub load_step : (k : SettingsFields) (slots id i : ℕ) (v : View) (cs : List (ℕ × ℕ)) (told : ℕ → Me ℕ View → Type 0)
-    → ((ws : List ℕ) (views : List View) → Opened k ws views → get_elem? views id ≡ some v → (w : View) × Opened k ws (set views id w) × told (slice_index ws i) (w, cs))
-    → Allows (Kept k) slots id (v, cs) i (λ n. n) told
-load_step k slots id i v cs told f s h len at lt =
+pub load_step : (k : SettingsFields) (slots id i : ℕ) (v : View) (cs : List (ℕ × ℕ)) (reported : ℕ → Me ℕ View → Type 0)
+    → ((ws : List ℕ) (views : List View) → Opened k ws views → get_elem? views id ≡ some v → (w : View) × Opened k ws (set views id w) × reported (slice_index ws i) (w, cs))
+    → Allows (Kept k) slots id (v, cs) i (λ n. n) reported
+load_step k slots id i v cs reported f s h len at lt =
     let t = f s.words s.views h at in
     (t.0, keeps, tt, subst (λ (ws : List ℕ). Opened k ws (set s.views id t.0)) (sym (set-get_or s.words i 0)) t.1, t.2)
 
-pub store_step : (k : SettingsFields) (slots id i x : ℕ) (v : View) (cs : List (ℕ × ℕ)) (told : Me ℕ View → Type 0)
-    → ((ws : List ℕ) (views : List View) → Opened k ws views → get_elem? views id ≡ some v → (w : View) × Opened k (set ws i x) (set views id w) × told (w, cs))
-    → Allows (Kept k) slots id (v, cs) i (λ _. x) (λ _. told)
-store_step k slots id i x v cs told f s h len at lt =
+pub store_step : (k : SettingsFields) (slots id i x : ℕ) (v : View) (cs : List (ℕ × ℕ)) (reported : Me ℕ View → Type 0)
+    → ((ws : List ℕ) (views : List View) → Opened k ws views → get_elem? views id ≡ some v → (w : View) × Opened k (set ws i x) (set views id w) × reported (w, cs))
+    → Allows (Kept k) slots id (v, cs) i (λ _. x) (λ _. reported)
+store_step k slots id i x v cs reported f s h len at lt =
     let t = f s.words s.views h at in
     (t.0, keeps, tt, t.1, t.2)
 

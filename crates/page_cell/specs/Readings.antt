@@ -13,7 +13,7 @@ pub record ReadsPage (v w : View) (p : PageFields) : Type 0 where
   pub later : v.seen ≤ w.seen
   pub reading : w.readings ≡ v.readings ++ (w.seen, words p) ∷ []
   pub page : IsPage p
-  pub equal : (front : List (ℕ × ℕ)) × (w.watch.pairs ≡ front ++ (w.seen, w.seen) ∷ []) × All IsRising front
+  pub equal : (prefix : List (ℕ × ℕ)) × (w.watch.pairs ≡ prefix ++ (w.seen, w.seen) ∷ []) × All IsRising prefix
   pub tries : length w.watch.pairs ≤ 4
   pub loads : w.watch.loads ≡ v.watch.loads + 12 * length w.watch.pairs
   pub torn : w.watch.torn ≡ v.watch.torn
@@ -25,7 +25,7 @@ pub record ReadsAgain (v w : View) (first second : ℕ) : Type 0 where
   pub readings : w.readings ≡ v.readings
   pub tries : length w.watch.pairs ≡ 4
   pub rising : All IsRising w.watch.pairs
-  pub last : (front : List (ℕ × ℕ)) × (w.watch.pairs ≡ front ++ (first, second) ∷ [])
+  pub last : (prefix : List (ℕ × ℕ)) × (w.watch.pairs ≡ prefix ++ (first, second) ∷ [])
   pub loads : w.watch.loads ≡ v.watch.loads + 48
   pub torn : w.watch.torn ≡ v.watch.torn + 1
   pub above : v.seen < w.watch.greatest

@@ -7,8 +7,8 @@ use Rattle.page_cell.specs.Views.{begins, fails_at, succeeds, with_loaded}
 use Rattle.page_cell.specs.declared.view.View.{View}
 
 -- one try, by its two counts and the words in between
-abbrev pub TellsTry : ℕ → ℕ → List ℕ → View → View → Type 0
-TellsTry first second ten v w =
+abbrev pub ReportsTry : ℕ → ℕ → List ℕ → View → View → Type 0
+ReportsTry first second ten v w =
     MatchBool (second == first)
     ((w ≡ succeeds (with_loaded ten 10 (begins first v))) × (v.seen ≤ first) × ((p : PageFields) × AreWords ten p))
     ((w ≡ fails_at second (with_loaded ten 10 (begins first v))) × (v.seen ≤ first) × (first < second))
@@ -36,4 +36,4 @@ pub record ReadsOnce (v : View) (n : ℕ) (ten : List ℕ) (w : View) : Type 0 w
   pub greatest : v.watch.greatest ≤ w.watch.greatest
   pub loads : w.watch.loads ≡ v.watch.loads + 12 * length w.watch.pairs
   pub most : length w.watch.pairs ≤ 4
-  pub equal : (front : List (ℕ × ℕ)) × (w.watch.pairs ≡ front ++ (n, n) ∷ []) × All IsRising front
+  pub equal : (prefix : List (ℕ × ℕ)) × (w.watch.pairs ≡ prefix ++ (n, n) ∷ []) × All IsRising prefix

@@ -4,7 +4,7 @@ ghost use Rattle.clock_page.specs.Page.{AreWords, PageFields, words};
 ghost use Rattle.page_cell.specs.Passes.{IsResting};
 ghost use Rattle.page_cell.specs.Readings.{ReadsAgain, ReadsPage};
 ghost use Rattle.page_cell.specs.Steps.{Holds};
-ghost use Rattle.page_cell.specs.Tries.{ReadsOnce, TellsTry, Tried};
+ghost use Rattle.page_cell.specs.Tries.{ReadsOnce, ReportsTry, Tried};
 ghost use Rattle.page_cell.specs.Views.{with_loaded};
 
 use crate::steps::{Banks, BeginsTry, EndsTry, LoadsWord, LooksOver, Token};
@@ -56,7 +56,7 @@ fn attempt<M: Meanwhile>(
     ensures own { token.new.table_id ≡ token.old.table_id }
     ensures slots { token.new.me.1 ≡ token.old.me.1 }
     ensures greatest { token.old.me.0.watch.greatest ≤ result.0 }
-    ensures tells { TellsTry result.0 result.1 result.2 token.old.me.0 token.new.me.0 }
+    ensures reports { ReportsTry result.0 result.1 result.2 token.old.me.0 token.new.me.0 }
 {
     let first = banks.shared.load::<BeginsTry>(token, 0);
     let ten = load_words(banks, token, first);
@@ -109,7 +109,7 @@ pub(crate) fn look(banks: &Banks, token: &mut Token)
     requires holds { (token.old.me.0.spent ≡ false) × (token.old.me.0.baton ≡ true) }
     ensures own { token.new.table_id ≡ token.old.table_id }
     ensures me { token.new.me ≡ token.old.me }
-    ensures told { Holds token.old.me.0 }
+    ensures reported { Holds token.old.me.0 }
 {
     banks.shared.load::<LooksOver>(token, 0);
 }

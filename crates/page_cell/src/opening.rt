@@ -4,7 +4,7 @@ ghost use Rattle.std.specs.List.{range_with_len};
 ghost use Rattle.page_cell.specs.Passes.{key_of, claim_of};
 ghost use Rattle.page_cell.specs.Rule.{HasBank};
 ghost use Rattle.page_cell.specs.Views.{new_claim, opened_by};
-ghost use Rattle.system_fold.specs.Settings.{AreLawful};
+ghost use Rattle.system_fold.specs.Settings.{AreValid};
 
 use crate::cell::PageCell;
 use crate::passes::{BatonPass, FeedPass, ReadPass};
@@ -46,7 +46,7 @@ fn first_words(ten: &[u64; WORDS]) -> [u64; TABLE_WORDS]
 
 // The cell with the page of no entry, and its first pass.
 fn first_pass(alloc: Global, s: &Settings) -> Result<(PageCell, BatonPass), CellOpen>
-    requires { AreLawful s.now }
+    requires { AreValid s.now }
     ensures cell { IfOk result (λ r. r.1.table ≡ r.0.table) }
     ensures view { IfOk result (λ r. r.1.view ≡ opened_by s.now) }
 {
@@ -145,7 +145,7 @@ impl PageCell {
 
     /// Opens a cell with the page of no entry: a pass for each feed of the settings, and for this many readers, at most 8.
     pub fn open(alloc: Global, s: &Settings, readers: u32) -> Result<CellParts, CellOpen>
-        requires lawful { AreLawful s.now }
+        requires valid { AreValid s.now }
         requires few { readers ≤ 8 }
         ensures baton { IfOk result
             (λ p. (p.baton.table ≡ p.cell.table) × (p.baton.view.list ≡ []) × (key_of p.baton.view ≡ s.now)) }

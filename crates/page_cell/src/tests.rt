@@ -108,7 +108,7 @@ fn is_torn_so(
 
 // A try is made again where an entry was published between its two loads of the count, up to three times.
 #[test]
-fn four_torn_tries_are_told(rt: HostRuntime) -> Result<(), Fail> {
+fn four_torn_tries_are_reported(rt: HostRuntime) -> Result<(), Fail> {
     is_torn_so(&rt, rt.alloc(), &TORN)
 }
 

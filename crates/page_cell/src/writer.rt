@@ -1,7 +1,7 @@
 //! The writer that publishes in tests.
 ghost use Rattle.std.specs.Prelude.{◌≡◌, ◌≤◌, ◌<◌, [], length};
 ghost use Rattle.page_cell.specs.Passes.{key_of};
-ghost use Rattle.system_fold.specs.Settings.{AreLawful};
+ghost use Rattle.system_fold.specs.Settings.{AreValid};
 
 use crate::loading::{Again, Meanwhile};
 use crate::storing::begin;
@@ -48,7 +48,7 @@ impl Writer {
     pub fn new(baton: BatonPass, feed: FeedPass, settings: &Settings) -> Writer
         requires own { feed.table ≡ baton.table }
         requires fresh { (baton.view.list ≡ []) × (key_of baton.view ≡ settings.now) }
-        requires lawful { AreLawful settings.now }
+        requires valid { AreValid settings.now }
         ensures { result.table ≡ baton.table }
     {
         Writer {
@@ -109,8 +109,8 @@ impl Writer {
 
 // One more feed, of a leap second file, up to 16 feeds in all.
 fn add_leap(settings: &mut Settings)
-    requires { AreLawful settings.old }
-    ensures { AreLawful settings.new }
+    requires { AreValid settings.old }
+    ensures { AreValid settings.new }
 {
     if settings.count() >= 16 {
         return;
@@ -120,7 +120,7 @@ fn add_leap(settings: &mut Settings)
 
 /// Settings with this many feeds, 1 to 16, the first of which is a radio.
 pub fn of_one_radio(feeds: u32) -> Settings
-    ensures { AreLawful result }
+    ensures { AreValid result }
 {
     let mut settings = Settings::new(1000);
     settings.add(SourceKind::Radio(Plan::Dcf));

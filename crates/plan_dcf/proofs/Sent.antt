@@ -9,8 +9,8 @@ use Rattle.civil_minute.specs.declared.seconds.CivilMinute.{CivilMinute}
 use Rattle.civil_frame.specs.Seconds.{local_second}
 use Rattle.frame_rules.specs.Digits.{bit_symbol}
 use Rattle.frame_rules.specs.Fields.{is_one, symbols_of}
-use Rattle.frame_rules.specs.Sendings.{spoilt_if}
-use Rattle.frame_rules.proofs.SentLaws.{FitsLog, ReadsBack, Shape, IsMinute, alone_bit, is_alone, is_calm, read_of, spoilt_count}
+use Rattle.frame_rules.specs.Sendings.{damaged_if}
+use Rattle.frame_rules.proofs.SentLaws.{FitsLog, ReadsBack, Shape, IsMinute, alone_bit, is_alone, is_calm, read_of, damaged_count}
 use Rattle.tick_units.specs.Marks.{is_between}
 use Rattle.tick_units.specs.declared.marks.Mark.{Mark}
 use Rattle.tick_units.specs.declared.marks.Symbol.{Symbol}
@@ -57,12 +57,12 @@ alone_last : (b : Bool) → list_all is_alone (if b then Zero ∷ [] else []) �
 alone_last true = refl
 alone_last false = refl
 
-frame_alone : (spoilt : Bool) (c : Coded) (civil : CivilMinute) (weekday : ℕ) → list_all is_alone (spoilt_if spoilt (frame_of c civil weekday)) ≡ true
+frame_alone : (damaged : Bool) (c : Coded) (civil : CivilMinute) (weekday : ℕ) → list_all is_alone (damaged_if damaged (frame_of c civil weekday)) ≡ true
 unfolding frame_of
 frame_alone true c civil weekday = simp (alone_bit, alone_last)
 frame_alone false c civil weekday = simp (alone_bit, alone_last)
 
-frame_begins : (spoilt : Bool) (c : Coded) (civil : CivilMinute) (weekday : ℕ) → (tail : List Symbol) × (spoilt_if spoilt (frame_of c civil weekday) ≡ Zero ∷ tail)
+frame_begins : (damaged : Bool) (c : Coded) (civil : CivilMinute) (weekday : ℕ) → (tail : List Symbol) × (damaged_if damaged (frame_of c civil weekday) ≡ Zero ∷ tail)
 unfolding frame_of
 frame_begins true c civil weekday = (_, refl)
 frame_begins false c civil weekday = (_, refl)
@@ -71,9 +71,9 @@ frame_calm : (before : Symbol) (more : List Symbol) → is_calm shape before mor
 frame_calm before [] = refl
 frame_calm before (symbol ∷ more) = frame_calm symbol more
 
-frame_minute : (spoilt : Bool) (c : Coded) (civil : CivilMinute) (weekday : ℕ) → (c.leap_at == c.minute) ≡ false → IsMinute shape (spoilt_if spoilt (frame_of c civil weekday))
-frame_minute spoilt c civil weekday e =
-    let begins = frame_begins spoilt c civil weekday in
+frame_minute : (damaged : Bool) (c : Coded) (civil : CivilMinute) (weekday : ℕ) → (c.leap_at == c.minute) ≡ false → IsMinute shape (damaged_if damaged (frame_of c civil weekday))
+frame_minute damaged c civil weekday e =
+    let begins = frame_begins damaged c civil weekday in
     let one : length (frame_of c civil weekday) ≡ 59 = length-frame_of c civil weekday ∙ rw e refl in
     record {
       head = Zero;
@@ -82,13 +82,13 @@ frame_minute spoilt c civil weekday e =
       begins_it = refl;
       calm = frame_calm Zero begins.0;
       ends_it = refl;
-      alone = frame_alone spoilt c civil weekday;
-      count = spoilt_count spoilt (frame_of c civil weekday) ∙ one;
+      alone = frame_alone damaged c civil weekday;
+      count = damaged_count damaged (frame_of c civil weekday) ∙ one;
     }
 
-minute : (spoilt : Bool) (c : Coded) → c.leap_at ≡ 0 → (c.leap_at == c.minute) ≡ false → IsMinute shape (spoilt_if spoilt (spelt c))
+minute : (damaged : Bool) (c : Coded) → c.leap_at ≡ 0 → (c.leap_at == c.minute) ≡ false → IsMinute shape (damaged_if damaged (spelt c))
 unfolding spelt
-minute spoilt c none e = frame_minute spoilt c (civil_of (local_second hours_ahead c)) (weekday_of (local_second hours_ahead c)) e
+minute damaged c none e = frame_minute damaged c (civil_of (local_second hours_ahead c)) (weekday_of (local_second hours_ahead c)) e
 
 -- ---- no leap second
 
@@ -98,7 +98,7 @@ read_at symbols place = slice_index_or (map (read_of dcf_code dcf_sending) symbo
 one_bit : (bit : Bool) → bit ≡ false → is_one (read_of dcf_code dcf_sending (bit_symbol bit)) ≡ false
 one_bit bit e = rw e refl
 
-frame_leap : (spoilt : Bool) (c : Coded) (civil : CivilMinute) (weekday : ℕ) → c.leap_at ≡ 0 → is_one (read_at (spoilt_if spoilt (frame_of c civil weekday)) 19) ≡ false
+frame_leap : (damaged : Bool) (c : Coded) (civil : CivilMinute) (weekday : ℕ) → c.leap_at ≡ 0 → is_one (read_at (damaged_if damaged (frame_of c civil weekday)) 19) ≡ false
 unfolding frame_of
 frame_leap true c civil weekday e = one_bit (not (c.leap_at == 0)) (rw e refl)
 frame_leap false c civil weekday e = one_bit (not (c.leap_at == 0)) (rw e refl)
@@ -107,11 +107,11 @@ coded_none : (marks : List Mark) → announces_leap marks ≡ false → (coded m
 unfolding coded
 coded_none marks e = rw e refl
 
-no_leap : (spoilt : Bool) (c : Coded) (marks : List Mark) → c.leap_at ≡ 0 → symbols_of marks ≡ map (read_of dcf_code dcf_sending) (spoilt_if spoilt (spelt c)) → (coded marks).leap_at ≡ 0
+no_leap : (damaged : Bool) (c : Coded) (marks : List Mark) → c.leap_at ≡ 0 → symbols_of marks ≡ map (read_of dcf_code dcf_sending) (damaged_if damaged (spelt c)) → (coded marks).leap_at ≡ 0
 unfolding spelt
-no_leap spoilt c marks none same =
+no_leap damaged c marks none same =
     coded_none marks (ap (λ (l : List Symbol). is_one (slice_index_or l 19 Zero)) same
-    ∙ frame_leap spoilt c (civil_of (local_second hours_ahead c)) (weekday_of (local_second hours_ahead c)) none)
+    ∙ frame_leap damaged c (civil_of (local_second hours_ahead c)) (weekday_of (local_second hours_ahead c)) none)
 
 pub reads : ReadsBack dcf_code dcf_sending
 reads = record {

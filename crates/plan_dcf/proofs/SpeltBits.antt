@@ -1,17 +1,17 @@
 -- What the bits of a spelling are worth, and that their parities are even.
 use Rattle.std.proofs.Common.{◌≡◌, ℕ, ◌+◌, ◌*◌, ◌/◌, ◌%◌, ◌<◌, ◌==◌, false, refl, arith}
 use Rattle.frame_rules.specs.Fields.{is_one}
-use Rattle.frame_rules.proofs.HighBits.{Tells, worth, bit_worth}
+use Rattle.frame_rules.proofs.HighBits.{Detects, worth, bit_worth}
 
-tells_one : Tells is_one
-tells_one = record { of_one = refl; of_zero = refl }
+detects_one : Detects is_one
+detects_one = record { of_one = refl; of_zero = refl }
 
 -- the lowest bit of a number
 abbrev pub low : ℕ → ℕ
 low n = worth is_one (n % 2)
 
 low-mod : (n : ℕ) → low n ≡ n % 2
-low-mod n = bit_worth is_one tells_one n
+low-mod n = bit_worth is_one detects_one n
 
 -- one digit
 pub digit_worth : (n : ℕ) → n < 16 → 1 * low n + (2 * low (n / 2) + (4 * low (n / 2 / 2) + (8 * low (n / 2 / 2 / 2) + 0))) ≡ n

@@ -2,7 +2,7 @@
 ghost use Rattle.std.specs.Prelude.{◌≡◌, ◌<◌, ◌≤◌, not, ◌&&◌, ◌==◌, List, length, IsTrue};
 ghost use Rattle.tick_units.specs.declared.marks.Mark.{Mark};
 ghost use Rattle.std.specs.Bool.{beq};
-ghost use Rattle.tick_units.specs.Years.{first_told, end_of_told};
+ghost use Rattle.tick_units.specs.Years.{first_supported, end_of_supported};
 ghost use Rattle.civil_minute.specs.Months.{begins_month};
 ghost use Rattle.civil_frame.specs.CivilDates.{names_minute};
 ghost use Rattle.civil_frame.specs.Seconds.{IsDated};
@@ -19,8 +19,8 @@ const DAY: u64 = 86_400;
 
 // Whether a leap second is announced and a month begins at this second.
 fn ends_with_leap<P: Places>(segment: &P, second: u64) -> bool
-    requires from { first_told ≤ second }
-    requires below { second < end_of_told }
+    requires from { first_supported ≤ second }
+    requires below { second < end_of_supported }
     ensures { (marks : List Mark) → P.stands_for segment.now marks →
         result ≡ (announces_leap marks && begins_month second) }
 {
@@ -29,8 +29,8 @@ fn ends_with_leap<P: Places>(segment: &P, second: u64) -> bool
 
 // Whether a 60th mark is there without reason or is missing in a minute that begins at this second.
 fn has_wrong_length<P: Places>(segment: &P, second: u64) -> bool
-    requires from { first_told ≤ second }
-    requires below { second < end_of_told }
+    requires from { first_supported ≤ second }
+    requires below { second < end_of_supported }
     ensures { (marks : List Mark) → P.stands_for segment.now marks → result ≡ not (beq (length marks == 60)
         (announces_leap marks && begins_month second)) }
 {

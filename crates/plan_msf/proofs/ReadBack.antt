@@ -10,15 +10,15 @@ use Rattle.frame_rules.specs.Rules.{is_odd, has_odd_symbol}
 use Rattle.tick_units.specs.declared.marks.Mark.{Mark}
 use Rattle.civil_minute.specs.declared.seconds.CivilMinute.{CivilMinute}
 use Rattle.frame_rules.proofs.BitSymbols.{is_odd-bit_symbol}
-use Rattle.frame_rules.proofs.HighBits.{Tells, three_worth, digit_worth, tens_worth_1, tens_worth_2, tens_worth_3, tens_worth_4}
+use Rattle.frame_rules.proofs.HighBits.{Detects, three_worth, digit_worth, tens_worth_1, tens_worth_2, tens_worth_3, tens_worth_4}
 use Rattle.frame_rules.proofs.Template.{has_odd_symbol-symbols_of}
 use Rattle.civil_frame.proofs.Says.{HasNumbers}
 use Rattle.plan_msf.specs.Fields.{is_summer, said}
 use Rattle.plan_msf.specs.Rules.{is_even_with}
 use Rattle.plan_msf.specs.Spelling.{with_b, year_of as year_symbols, date_of, time_of, frame_of}
 
-tells_a : Tells has_a
-tells_a = record { of_one = refl; of_zero = refl }
+detects_a : Detects has_a
+detects_a = record { of_one = refl; of_zero = refl }
 
 has_a-with_b : (bit : Bool) → has_a (with_b bit) ≡ true
 has_a-with_b true = refl
@@ -73,12 +73,12 @@ pub HasNumbers-spelt : (summer : Bool) (civil : CivilMinute) (weekday : ℕ) (ma
     civil.minute < 60 → civil.hour < 24 → civil.day < 32 → weekday < 8 → civil.month < 13 → HasNumbers (said marks) civil weekday
 unfolding frame_of said
 HasNumbers-spelt summer civil weekday marks e minute hour day week month = record {
-  year = record { tens = rw e (tens_worth_4 has_a tells_a (civil.year % 100 / 10) (omega arith)); ones = rw e (digit_worth has_a tells_a (civil.year % 100 % 10) (omega arith)) };
-  month = record { tens = rw e (tens_worth_1 has_a tells_a (civil.month / 10) (omega arith)); ones = rw e (digit_worth has_a tells_a (civil.month % 10) (omega arith)) };
-  day = record { tens = rw e (tens_worth_2 has_a tells_a (civil.day / 10) (omega arith)); ones = rw e (digit_worth has_a tells_a (civil.day % 10) (omega arith)) };
-  hour = record { tens = rw e (tens_worth_2 has_a tells_a (civil.hour / 10) (omega arith)); ones = rw e (digit_worth has_a tells_a (civil.hour % 10) (omega arith)) };
-  minute = record { tens = rw e (tens_worth_3 has_a tells_a (civil.minute / 10) (omega arith)); ones = rw e (digit_worth has_a tells_a (civil.minute % 10) (omega arith)) };
-  days = rw e (three_worth has_a tells_a weekday week);
+  year = record { tens = rw e (tens_worth_4 has_a detects_a (civil.year % 100 / 10) (omega arith)); ones = rw e (digit_worth has_a detects_a (civil.year % 100 % 10) (omega arith)) };
+  month = record { tens = rw e (tens_worth_1 has_a detects_a (civil.month / 10) (omega arith)); ones = rw e (digit_worth has_a detects_a (civil.month % 10) (omega arith)) };
+  day = record { tens = rw e (tens_worth_2 has_a detects_a (civil.day / 10) (omega arith)); ones = rw e (digit_worth has_a detects_a (civil.day % 10) (omega arith)) };
+  hour = record { tens = rw e (tens_worth_2 has_a detects_a (civil.hour / 10) (omega arith)); ones = rw e (digit_worth has_a detects_a (civil.hour % 10) (omega arith)) };
+  minute = record { tens = rw e (tens_worth_3 has_a detects_a (civil.minute / 10) (omega arith)); ones = rw e (digit_worth has_a detects_a (civil.minute % 10) (omega arith)) };
+  days = rw e (three_worth has_a detects_a weekday week);
 }
 
 -- ---- marks that agree in the bits that are read

@@ -7,7 +7,7 @@ use Rattle.civil_minute.specs.Seconds.{civil_of}
 use Rattle.civil_minute.specs.declared.seconds.CivilMinute.{CivilMinute}
 use Rattle.civil_frame.specs.Seconds.{local_second}
 use Rattle.frame_rules.specs.Digits.{bit_symbol}
-use Rattle.frame_rules.specs.Sendings.{spoilt_if}
+use Rattle.frame_rules.specs.Sendings.{damaged_if}
 use Rattle.frame_rules.proofs.SentLaws.{FitsLog, ReadsBack, Shape, IsMinute, alone_bit, is_alone, read_of}
 use Rattle.tick_units.specs.Marks.{is_long}
 use Rattle.tick_units.specs.declared.marks.Mark.{Mark}
@@ -62,7 +62,7 @@ alone_with_b : (bit : Bool) → is_alone (with_b bit) ≡ true
 alone_with_b true = refl
 alone_with_b false = refl
 
-frame_minute : (spoilt summer : Bool) (civil : CivilMinute) (weekday : ℕ) → IsMinute shape (spoilt_if spoilt (frame_of summer civil weekday))
+frame_minute : (damaged summer : Bool) (civil : CivilMinute) (weekday : ℕ) → IsMinute shape (damaged_if damaged (frame_of summer civil weekday))
 unfolding frame_of
 frame_minute true summer civil weekday = record {
   head = _;
@@ -85,9 +85,9 @@ frame_minute false summer civil weekday = record {
   count = refl;
 }
 
-minute : (spoilt : Bool) (c : Coded) → c.leap_at ≡ 0 → (c.leap_at == c.minute) ≡ false → IsMinute shape (spoilt_if spoilt (spelt c))
+minute : (damaged : Bool) (c : Coded) → c.leap_at ≡ 0 → (c.leap_at == c.minute) ≡ false → IsMinute shape (damaged_if damaged (spelt c))
 unfolding spelt
-minute spoilt c none e = frame_minute spoilt c.summer (civil_of (local_second hours_ahead c)) (weekday_of (local_second hours_ahead c) % 7)
+minute damaged c none e = frame_minute damaged c.summer (civil_of (local_second hours_ahead c)) (weekday_of (local_second hours_ahead c) % 7)
 
 no_leap : (marks : List Mark) → (coded marks).leap_at ≡ 0
 unfolding coded
@@ -104,5 +104,5 @@ reads = record {
   opening = inl (record { none = refl; begins = λ at head e. e });
   closing = record { head = Long; after = Zero; is = refl; begins_it = refl; head_alone = refl; after_alone = refl };
   minute = minute;
-  no_leap = λ spoilt c marks none same. no_leap marks;
+  no_leap = λ damaged c marks none same. no_leap marks;
 }

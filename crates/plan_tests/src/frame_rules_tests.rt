@@ -265,7 +265,7 @@ fn have_the_same_places(segment: &Segment<'_>, frame: &Frame) -> bool {
             return false;
         }
     }
-    segment.count() == frame.count() && segment.has_long_behind() == frame.has_long_behind()
+    segment.count() == frame.count() && segment.has_long_after() == frame.has_long_after()
 }
 
 // Both forms of these marks answer alike.
@@ -297,14 +297,14 @@ fn is_remembered(rt: &impl Abort, place: usize, wanted: bool)
         symbol: Symbol::Zero,
     }; 70];
     marks[place].symbol = Symbol::Long;
-    are_alike(rt, added(&marks).has_long_behind(), wanted);
-    are_alike(rt, Segment { marks: &marks }.has_long_behind(), wanted);
-    are_alike(rt, added(&marks[..61]).has_long_behind(), false);
+    are_alike(rt, added(&marks).has_long_after(), wanted);
+    are_alike(rt, Segment { marks: &marks }.has_long_after(), wanted);
+    are_alike(rt, added(&marks[..61]).has_long_after(), false);
 }
 
 // A Long mark after the 61st is remembered, and one before it is not taken for it.
 #[test]
-fn a_long_mark_behind_is_remembered(rt: HostRuntime) {
+fn a_long_mark_after_is_remembered(rt: HostRuntime) {
     is_remembered(&rt, 60, false);
     is_remembered(&rt, 61, true);
     is_remembered(&rt, 62, true);

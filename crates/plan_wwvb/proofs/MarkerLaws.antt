@@ -22,8 +22,8 @@ and_true : (b : Bool) → (b && true) ≡ b
 and_true true = refl
 and_true false = refl
 
-stray_behind : (marks : List Mark) (place : ℕ) → 61 ≤ place → is_stray marks place ≡ is_set is_long marks place
-stray_behind marks place le = ap (λ b. is_set is_long marks place && not b) (no_marker place le) ∙ and_true (is_set is_long marks place)
+stray_after : (marks : List Mark) (place : ℕ) → 61 ≤ place → is_stray marks place ≡ is_set is_long marks place
+stray_after marks place le = ap (λ b. is_set is_long marks place && not b) (no_marker place le) ∙ and_true (is_set is_long marks place)
 
 symbol_at : (marks : List Mark) (mark : Mark) (place : ℕ) → place < length marks → get_or (symbols_of marks) place Zero ≡ (get_or marks place mark).symbol
 symbol_at [] mark place lt = absurd (omega arith)
@@ -36,11 +36,11 @@ symbol_past (m ∷ ms) zero le = absurd (omega arith)
 symbol_past (m ∷ ms) (suc place) le = symbol_past ms place (omega arith)
 
 -- after the first places each Long is a stray one
-strays_behind : (marks : List Mark) (place count : ℕ) → 61 ≤ place → place + count ≡ length marks → list_any (is_stray marks) (range_with_len place count) ≡ has_long (drop place marks)
-strays_behind marks place zero le e = ap has_long (sym (drop_all place marks (omega arith)))
-strays_behind marks place (suc count) le e = some_mark marks marks (λ mark.
-    let here = stray_behind marks place le ∙ ap is_long (symbol_at marks mark place (omega arith)) in
-    let rest = strays_behind marks (place + 1) count (omega arith) (omega arith) in
+strays_after : (marks : List Mark) (place count : ℕ) → 61 ≤ place → place + count ≡ length marks → list_any (is_stray marks) (range_with_len place count) ≡ has_long (drop place marks)
+strays_after marks place zero le e = ap has_long (sym (drop_all place marks (omega arith)))
+strays_after marks place (suc count) le e = some_mark marks marks (λ mark.
+    let here = stray_after marks place le ∙ ap is_long (symbol_at marks mark place (omega arith)) in
+    let rest = strays_after marks (place + 1) count (omega arith) (omega arith) in
     ap (λ b. b || list_any (is_stray marks) (range_with_len (place + 1) count)) here
     ∙ ap (λ b. is_long (get_or marks place mark).symbol || b) rest
     ∙ ap has_long (sym (drop_more marks place mark (omega arith)))) (omega arith)
@@ -82,8 +82,8 @@ all_kept : (marks : List Mark) (n : ℕ) → length marks ≤ n → (list_any (i
 all_kept marks n le =
     let len = length marks in
     let n_is : n ≡ len + (n - len) = omega arith in
-    let behind : has_long (drop n marks) ≡ false = ap has_long (drop_all n marks le) in
-    ap (λ b. list_any (is_stray marks) (range_with_len 0 n) || b) behind
+    let later : has_long (drop n marks) ≡ false = ap has_long (drop_all n marks le) in
+    ap (λ b. list_any (is_stray marks) (range_with_len 0 n) || b) later
     ∙ or_false (list_any (is_stray marks) (range_with_len 0 n))
     ∙ ap (λ (k : ℕ). list_any (is_stray marks) (range_with_len 0 k)) n_is
     ∙ any_split (is_stray marks) 0 len (n - len)
@@ -91,12 +91,12 @@ all_kept marks n le =
     ∙ or_false (has_stray_marker marks)
 
 -- where some are after them
-some_behind : (marks : List Mark) (n : ℕ) → 61 ≤ n → n < length marks → (list_any (is_stray marks) (range_with_len 0 n) || has_long (drop n marks)) ≡ has_stray_marker marks
-some_behind marks n le lt =
+some_later : (marks : List Mark) (n : ℕ) → 61 ≤ n → n < length marks → (list_any (is_stray marks) (range_with_len 0 n) || has_long (drop n marks)) ≡ has_stray_marker marks
+some_later marks n le lt =
     let len = length marks in
     let len_is : n + (len - n) ≡ len = omega arith in
     let here : n ≡ 0 + n = omega arith in
-    ap (λ b. list_any (is_stray marks) (range_with_len 0 n) || b) (sym (strays_behind marks n (len - n) le len_is))
+    ap (λ b. list_any (is_stray marks) (range_with_len 0 n) || b) (sym (strays_after marks n (len - n) le len_is))
     ∙ ap (λ (k : ℕ). list_any (is_stray marks) (range_with_len 0 n) || list_any (is_stray marks) (range_with_len k (len - n))) here
     ∙ sym (any_split (is_stray marks) 0 n (len - n))
     ∙ ap (λ (k : ℕ). list_any (is_stray marks) (range_with_len 0 k)) len_is
@@ -104,7 +104,7 @@ some_behind marks n le lt =
 -- the first 61 places and what is after them
 pub strays_kept : (marks : List Mark) (n : ℕ) → 61 ≤ n → (list_any (is_stray marks) (range_with_len 0 n) || has_long (drop n marks)) ≡ has_stray_marker marks
 strays_kept marks n le = elim (cases_lt n (length marks)) [
-  | inl behind ↦ some_behind marks n le behind
+  | inl later ↦ some_later marks n le later
   | inr kept ↦ all_kept marks n kept
 ]
 
@@ -112,15 +112,15 @@ strays_kept marks n le = elim (cases_lt n (length marks)) [
 any_step : (test : ℕ → Bool) (place n : ℕ) → place < n → list_any test (range_with_len place (n - place)) ≡ (test place || list_any test (range_with_len (place + 1) (n - (place + 1))))
 any_step test place n lt = let e : n - place ≡ suc (n - (place + 1)) = omega arith in ap (λ (k : ℕ). list_any test (range_with_len place k)) e
 
-module _ (test : ℕ → Bool) (place n : ℕ) (behind all : Bool) (so_far : (list_any test (range_with_len place (n - place)) || behind) ≡ all) where
+module _ (test : ℕ → Bool) (place n : ℕ) (later all : Bool) (so_far : (list_any test (range_with_len place (n - place)) || later) ≡ all) where
   abbrev after : Bool
   after = list_any test (range_with_len (place + 1) (n - (place + 1)))
 
   pub place_found : place < n → test place ≡ true → true ≡ all
-  place_found lt e = sym (ap (λ b. b || behind) (any_step test place n lt) ∙ ap (λ b. (b || after) || behind) e) ∙ so_far
+  place_found lt e = sym (ap (λ b. b || later) (any_step test place n lt) ∙ ap (λ b. (b || after) || later) e) ∙ so_far
 
-  pub place_passed : place < n → test place ≡ false → (after || behind) ≡ all
-  place_passed lt e = sym (ap (λ b. b || behind) (any_step test place n lt) ∙ ap (λ b. (b || after) || behind) e) ∙ so_far
+  pub place_passed : place < n → test place ≡ false → (after || later) ≡ all
+  place_passed lt e = sym (ap (λ b. b || later) (any_step test place n lt) ∙ ap (λ b. (b || after) || later) e) ∙ so_far
 
-  pub places_passed : n ≤ place → behind ≡ all
-  places_passed le = let e : n - place ≡ 0 = omega arith in sym (ap (λ (k : ℕ). list_any test (range_with_len place k) || behind) e) ∙ so_far
+  pub places_passed : n ≤ place → later ≡ all
+  places_passed le = let e : n - place ≡ 0 = omega arith in sym (ap (λ (k : ℕ). list_any test (range_with_len place k) || later) e) ∙ so_far

@@ -11,7 +11,7 @@ use Rattle.tick_units.specs.declared.marks.Symbol.{Symbol}
 use Rattle.tick_units.specs.declared.marks.Symbol.TheVariants.{Zero}
 use Rattle.civil_minute.specs.declared.seconds.CivilMinute.{CivilMinute}
 use Rattle.frame_rules.proofs.BitSymbols.{is_one-bit_symbol, is_long-bit_symbol, is_odd-bit_symbol}
-use Rattle.frame_rules.proofs.HighBits.{Tells, worth, bit_worth, digit_worth, tens_worth_2, tens_worth_3, tens_worth_4}
+use Rattle.frame_rules.proofs.HighBits.{Detects, worth, bit_worth, digit_worth, tens_worth_2, tens_worth_3, tens_worth_4}
 use Rattle.frame_rules.proofs.Template.{has_odd_symbol-symbols_of}
 use Rattle.civil_frame.proofs.Says.{HasDigits}
 use Rattle.plan_wwvb.specs.Fields.{marker_places, is_marker_place, zero_places, announces_leap, said}
@@ -19,8 +19,8 @@ use Rattle.plan_wwvb.specs.declared.fields.OrdinalTime.{OrdinalTime}
 use Rattle.plan_wwvb.specs.Rules.{lacks_marker, breaks_reserved}
 use Rattle.plan_wwvb.specs.Spelling.{frame_of, is_free}
 
-tells_one : Tells is_one
-tells_one = record { of_one = refl; of_zero = refl }
+detects_one : Detects is_one
+detects_one = record { of_one = refl; of_zero = refl }
 
 -- a place that is Long and shouldn't be
 abbrev pub strays : List Mark → ℕ → Bool
@@ -63,20 +63,20 @@ pub record HasNumbers (ordinal : OrdinalTime) (civil : CivilMinute) (day : ℕ) 
   pub year : HasDigits ordinal.year (civil.year % 100)
 
 hundreds_worth : (n : ℕ) → n < 4 → 200 * worth is_one (n / 2 % 2) + (100 * worth is_one (n / 1 % 2) + 0) ≡ 100 * n
-hundreds_worth n h = omega (arith, bit_worth is_one tells_one (n / 2), bit_worth is_one tells_one (n / 1))
+hundreds_worth n h = omega (arith, bit_worth is_one detects_one (n / 2), bit_worth is_one detects_one (n / 1))
 
 pub HasNumbers-spelt : (leap : Bool) (civil : CivilMinute) (day : ℕ) (marks : List Mark) → symbols_of marks ≡ frame_of leap civil day →
     civil.minute < 60 → civil.hour < 24 → day < 400 → HasNumbers (said marks) civil day
 unfolding frame_of said
 HasNumbers-spelt leap civil day marks e minute hour days = record {
-  minute = record { tens = rw e (tens_worth_3 is_one tells_one (civil.minute / 10) (omega arith)); ones = rw e (digit_worth is_one tells_one (civil.minute % 10) (omega arith)) };
-  hour = record { tens = rw e (tens_worth_2 is_one tells_one (civil.hour / 10) (omega arith)); ones = rw e (digit_worth is_one tells_one (civil.hour % 10) (omega arith)) };
+  minute = record { tens = rw e (tens_worth_3 is_one detects_one (civil.minute / 10) (omega arith)); ones = rw e (digit_worth is_one detects_one (civil.minute % 10) (omega arith)) };
+  hour = record { tens = rw e (tens_worth_2 is_one detects_one (civil.hour / 10) (omega arith)); ones = rw e (digit_worth is_one detects_one (civil.hour % 10) (omega arith)) };
   hundreds = rw e (hundreds_worth (day / 100) (omega arith));
   days = record {
-    tens = rw e (omega (arith, tens_worth_4 is_one tells_one (day / 10 % 10) (omega arith)));
-    ones = rw e (omega (arith, digit_worth is_one tells_one (day % 10) (omega arith)));
+    tens = rw e (omega (arith, tens_worth_4 is_one detects_one (day / 10 % 10) (omega arith)));
+    ones = rw e (omega (arith, digit_worth is_one detects_one (day % 10) (omega arith)));
   };
-  year = record { tens = rw e (tens_worth_4 is_one tells_one (civil.year % 100 / 10) (omega arith)); ones = rw e (digit_worth is_one tells_one (civil.year % 100 % 10) (omega arith)) };
+  year = record { tens = rw e (tens_worth_4 is_one detects_one (civil.year % 100 / 10) (omega arith)); ones = rw e (digit_worth is_one detects_one (civil.year % 100 % 10) (omega arith)) };
 }
 
 -- ---- tests over places

@@ -5,7 +5,7 @@ use Rattle.civil_minute.specs.Seconds.{civil_of, day_of_year_of}
 use Rattle.civil_minute.specs.declared.seconds.CivilMinute.{CivilMinute}
 use Rattle.frame_rules.specs.Digits.{bit_symbol}
 use Rattle.frame_rules.specs.Fields.{is_one, symbols_of}
-use Rattle.frame_rules.specs.Sendings.{spoilt_if}
+use Rattle.frame_rules.specs.Sendings.{damaged_if}
 use Rattle.frame_rules.proofs.SentLaws.{FitsLog, ReadsBack, Shape, IsMinute, alone_bit, read_of}
 use Rattle.tick_units.specs.Marks.{is_long}
 use Rattle.tick_units.specs.declared.marks.Mark.{Mark}
@@ -42,7 +42,7 @@ read_bit : (bit : Bool) → is_marker (bit_symbol bit) ≡ false
 read_bit true = refl
 read_bit false = refl
 
-frame_minute : (spoilt leap : Bool) (civil : CivilMinute) (day : ℕ) → IsMinute shape (spoilt_if spoilt (frame_of leap civil day))
+frame_minute : (damaged leap : Bool) (civil : CivilMinute) (day : ℕ) → IsMinute shape (damaged_if damaged (frame_of leap civil day))
 unfolding frame_of
 frame_minute true leap civil day = record {
   head = _;
@@ -65,9 +65,9 @@ frame_minute false leap civil day = record {
   count = refl;
 }
 
-minute : (spoilt : Bool) (c : Coded) → c.leap_at ≡ 0 → (c.leap_at == c.minute) ≡ false → IsMinute shape (spoilt_if spoilt (spelt c))
+minute : (damaged : Bool) (c : Coded) → c.leap_at ≡ 0 → (c.leap_at == c.minute) ≡ false → IsMinute shape (damaged_if damaged (spelt c))
 unfolding spelt
-minute spoilt c none e = frame_minute spoilt (not (c.leap_at == 0)) (civil_of (sent_second c)) (day_of_year_of (sent_second c))
+minute damaged c none e = frame_minute damaged (not (c.leap_at == 0)) (civil_of (sent_second c)) (day_of_year_of (sent_second c))
 
 -- ---- no leap second
 
@@ -77,7 +77,7 @@ read_at symbols place = slice_index_or (map (read_of wwvb_code wwvb_sending) sym
 one_bit : (bit : Bool) → bit ≡ false → is_one (read_of wwvb_code wwvb_sending (bit_symbol bit)) ≡ false
 one_bit bit e = rw e refl
 
-frame_leap : (spoilt leap : Bool) (civil : CivilMinute) (day : ℕ) → leap ≡ false → is_one (read_at (spoilt_if spoilt (frame_of leap civil day)) 56) ≡ false
+frame_leap : (damaged leap : Bool) (civil : CivilMinute) (day : ℕ) → leap ≡ false → is_one (read_at (damaged_if damaged (frame_of leap civil day)) 56) ≡ false
 unfolding frame_of
 frame_leap true leap civil day e = one_bit leap e
 frame_leap false leap civil day e = one_bit leap e
@@ -86,12 +86,12 @@ coded_none : (marks : List Mark) → announces_leap marks ≡ false → (coded m
 unfolding coded
 coded_none marks e = rw e refl
 
-no_leap : (spoilt : Bool) (c : Coded) (marks : List Mark) → c.leap_at ≡ 0 → symbols_of marks ≡ map (read_of wwvb_code wwvb_sending) (spoilt_if spoilt (spelt c)) → (coded marks).leap_at ≡ 0
+no_leap : (damaged : Bool) (c : Coded) (marks : List Mark) → c.leap_at ≡ 0 → symbols_of marks ≡ map (read_of wwvb_code wwvb_sending) (damaged_if damaged (spelt c)) → (coded marks).leap_at ≡ 0
 unfolding spelt
-no_leap spoilt c marks none same =
+no_leap damaged c marks none same =
     let off : not (c.leap_at == 0) ≡ false = rw none refl in
     coded_none marks (ap (λ (l : List Symbol). is_one (slice_index_or l 56 Zero)) same
-    ∙ frame_leap spoilt (not (c.leap_at == 0)) (civil_of (sent_second c)) (day_of_year_of (sent_second c)) off)
+    ∙ frame_leap damaged (not (c.leap_at == 0)) (civil_of (sent_second c)) (day_of_year_of (sent_second c)) off)
 
 pub reads : ReadsBack wwvb_code wwvb_sending
 reads = record {

@@ -87,7 +87,7 @@ fn has_stray_marker<P: Places>(segment: &P) -> bool
             return true;
         }
     }
-    segment.has_long_behind()
+    segment.has_long_after()
 }
 
 fn breaks_markers<P: Places>(segment: &P) -> bool

@@ -157,7 +157,7 @@ fn ends_so(rt: &impl Abort, kept: bool, want: &[u8]) {
 
 // The reply of 48 bytes 0, to a client that was kept and to one that was not.
 #[test]
-fn the_line_behind_a_reply(rt: HostRuntime) {
+fn the_line_after_a_reply(rt: HostRuntime) {
     ends_so(&rt, true, b"\n");
     ends_so(&rt, false, b"\nunkept\n");
 }

@@ -10,9 +10,9 @@ use memory_outside::{NOON, REQUEST_DIGITS};
 use radio_receiver::{DcfReceiver, MsfReceiver, Receiver, WwvbReceiver};
 use receiver_rack::put_in_rack;
 use script_line::read_line;
-use script_player::{BoxedReceiver, NotLawful, Outcome, Player, write_outcome};
-use station_config::Station;
+use script_player::{BoxedReceiver, Invalid, Outcome, Player, write_outcome};
 use station_reader::read_station;
+use station_values::Station;
 use std::alloc::{AllocError, Global};
 use std::process::Abort;
 use tick_units::{Plan, Short, Stamp};
@@ -77,7 +77,7 @@ fn play_lines(
         };
         match player.play(&line) {
             Ok(outcome) => write_line(&mut text, &outcome),
-            Err(NotLawful) => {
+            Err(Invalid) => {
                 let _ = write!(text, "{number} is not valid\n");
             }
         }
@@ -222,18 +222,18 @@ fn moments_of_a_server_do_not_fall(rt: HostRuntime) {
 const OF_OTHER_FEEDS: &str =
     "pulse 1 1 1\npulse 2 1 1\nask 0 1\nask 2 1\nanswer 0 1 00\nanswer 2 1 00\nswap 1\nswap 2\npulse 4294967295 1 1\nask 4294967295 1\n";
 
-const NOT_LAWFUL: &str =
+const INVALID: &str =
     "1 is not valid\n2 is not valid\n3 is not valid\n4 is not valid\n5 is not valid\n6 is not valid\n7 is not valid\n\
 8 is not valid\n9 is not valid\n10 is not valid\n";
 
 // Feed 0 is a radio, feed 1 a server, and there is no other.
 #[test]
-fn lines_of_other_feeds_are_not_lawful(rt: HostRuntime) {
+fn lines_of_other_feeds_are_not_valid(rt: HostRuntime) {
     let script = [
         OF_OTHER_FEEDS,
         "request 7 1 1 00\npulse 0 1 1\nanswer 1 1 00\n",
     ];
-    let want = [NOT_LAWFUL, "drop short\nj2 1 0 1 1 declined 2\n"];
+    let want = [INVALID, "drop short\nj2 1 0 1 1 declined 2\n"];
     parts_give(&rt, rt.alloc(), &[DCF, SERVER], &script, &want);
 }
 

@@ -2,11 +2,11 @@
 use Rattle.std.proofs.Common.{ℕ, ◌*◌, ◌^◌, ◌<◌, ◌≤◌, ℤ, pos, negsuc, ◌+ℤ◌, ◌-ℤ◌, ◌≤ℤ◌, ◌<ℤ◌, arith}
 use Rattle.std.proofs.lemmas.Int.{ints, clamps}
 use Rattle.std.proofs.Math.Nat.{pow-le-pow_right}
-use Rattle.tick_units.specs.Samples.{IsLength, IsLawful}
+use Rattle.tick_units.specs.Samples.{IsLength, IsValid}
 use Rattle.tick_units.specs.Units.{floor_div, local_span}
 use Rattle.tick_units.specs.declared.stamp.Stamp.{Stamp}
 use Rattle.ntp_packet.specs.declared.header.Header.{Header}
-use Rattle.feed_link.specs.declared.outside.Address.{Address}
+use Rattle.outside_traits.specs.declared.outside.Address.{Address}
 use Rattle.poll_core.specs.Formulas.{span_of, offset_of, delay_of, precision_units, sample_of}
 
 pub power-most : (exponent most : ℕ) → exponent ≤ most → 2 ^ exponent ≤ 2 ^ most
@@ -35,8 +35,8 @@ delay-is_length : (sent arrived : ℕ) (received answered : ℤ) → arrived < 2
 delay-is_length sent arrived received answered a r t = record { least = omega (arith, ints, clamps); below = omega (arith, ints, clamps) }
 
 -- the sample of an exchange is valid, where its moments and its timestamps are in their ranges
-pub sample_of-is_lawful : (server : Address) (asked at : ℕ) (h : Header) → asked ≤ at → at < 2 ^ 50 → h.receive.0 < 2 ^ 64 → h.transmit.0 < 2 ^ 64 → IsLawful (sample_of server asked at h)
-sample_of-is_lawful server asked at h after below receive transmit =
+pub sample_of-is_valid : (server : Address) (asked at : ℕ) (h : Header) → asked ≤ at → at < 2 ^ 50 → h.receive.0 < 2 ^ 64 → h.transmit.0 < 2 ^ 64 → IsValid (sample_of server asked at h)
+sample_of-is_valid server asked at h after below receive transmit =
     let received = span_of-is_in_era h.receive receive in
     let answered = span_of-is_in_era h.transmit transmit in
     let precision = precision-most h.precision in

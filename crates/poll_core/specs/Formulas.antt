@@ -8,7 +8,7 @@ use Rattle.tick_units.specs.declared.sample.Sample.{Sample}
 use Rattle.tick_units.specs.declared.stamp.Stamp.{Stamp}
 use Rattle.ntp_packet.specs.Protocol.{client_mode, latest_version, own_precision, own_precision_units}
 use Rattle.ntp_packet.specs.declared.header.Header.{Header}
-use Rattle.feed_link.specs.declared.outside.Address.{Address}
+use Rattle.outside_traits.specs.declared.outside.Address.{Address}
 
 -- the transmit timestamp of the request made at a moment
 abbrev pub request_stamp : ℕ → Stamp

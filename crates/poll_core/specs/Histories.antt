@@ -3,7 +3,7 @@ use Rattle.std.specs.Prelude.{ℕ, Option, None, Some, unwrap_or, Result, Ok, Er
 use Rattle.tick_units.specs.declared.sample.Sample.{Sample}
 use Rattle.tick_units.specs.declared.stamp.Stamp.{Stamp}
 use Rattle.ntp_packet.specs.Layout.{fields}
-use Rattle.feed_link.specs.declared.outside.Address.{Address}
+use Rattle.outside_traits.specs.declared.outside.Address.{Address}
 use Rattle.poll_core.specs.Formulas.{sample_of}
 use Rattle.poll_core.specs.Refusals.{table, first_refusal}
 use Rattle.poll_core.specs.declared.refusal.PollRefusal.{PollRefusal}

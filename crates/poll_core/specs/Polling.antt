@@ -1,6 +1,6 @@
 -- The state of a poller, by its server and the history of its requests and answers (RFC 5905, section 8).
 use Rattle.std.specs.Prelude.{◌≡◌, ℕ, Option, List}
-use Rattle.feed_link.specs.declared.outside.Address.{Address}
+use Rattle.outside_traits.specs.declared.outside.Address.{Address}
 use Rattle.poll_core.specs.Histories.{Event, outstanding, last_accepted}
 use Rattle.poll_core.specs.declared.poll.Poll.{Poll}
 

@@ -7,7 +7,7 @@ use Rattle.tick_units.specs.declared.stamp.Stamp.{Stamp}
 use Rattle.ntp_packet.specs.Layout.{fields}
 use Rattle.ntp_packet.specs.Protocol.{latest_version, server_mode}
 use Rattle.ntp_packet.specs.declared.header.Header.{Header}
-use Rattle.feed_link.specs.declared.outside.Address.{Address}
+use Rattle.outside_traits.specs.declared.outside.Address.{Address}
 use Rattle.poll_core.specs.Formulas.{request_stamp}
 use Rattle.poll_core.specs.declared.refusal.PollRefusal.{PollRefusal}
 use Rattle.poll_core.specs.declared.refusal.PollRefusal.TheVariants.{Stranger, Short, NotAsked, Version, Mode, Bogus, Duplicate, Unsynchronised, ZeroStamp, Distance}

@@ -2,12 +2,12 @@
 ghost use Rattle.std.specs.Prelude.{◌≡◌, ◌<◌, ◌≤◌, ◌+◌, ◌*◌, ◌/◌, ◌%◌, ◌^◌, pos, unsigned_abs};
 ghost use Rattle.civil_minute.specs.Eras.{Unwraps};
 ghost use Rattle.tick_units.specs.Units.{local_span};
-ghost use Rattle.tick_units.specs.Samples.{IsLawful};
+ghost use Rattle.tick_units.specs.Samples.{IsValid};
 ghost use Rattle.poll_core.specs.Formulas.{span_of, precision_units, sample_of};
 
 use civil_minute::unwrap_era;
-use feed_link::Address;
 use ntp_packet::{Header, PRECISION_UNITS};
+use outside_traits::Address;
 use tick_units::{Local, Sample, Span, Stamp, local_span, phi};
 
 // A server's precision in log2 seconds counts as 2^4 s at most.
@@ -52,7 +52,7 @@ impl Exchange {
     pub fn sample(&self, server: Address, at: Local) -> Sample
         requires { self.now.asked ≤ at }
         ensures value { result ≡ sample_of server self.now.asked at self.now.header }
-        ensures lawful { IsLawful result }
+        ensures valid { IsValid result }
     {
         let header = &self.header;
         let sent = counter_span(self.asked);

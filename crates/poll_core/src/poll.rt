@@ -2,8 +2,8 @@
 ghost use Rattle.std.specs.Prelude.{◌≡◌, ℕ, ◌≤◌, ◌++◌, ◌∷◌, [], List, Option, None, Some, IfOk, IfErr, OnOk, OnErr};
 ghost use Rattle.std.specs.Option.{ForSome};
 ghost use Rattle.ntp_packet.specs.Layout.{fields, layout};
-ghost use Rattle.tick_units.specs.Samples.{IsLawful};
-ghost use Rattle.feed_link.specs.declared.outside.Address.{Address};
+ghost use Rattle.tick_units.specs.Samples.{IsValid};
+ghost use Rattle.outside_traits.specs.declared.outside.Address.{Address};
 ghost use Rattle.poll_core.specs.Formulas.{request_header};
 ghost use Rattle.poll_core.specs.Histories.{Event, Asked, Answered, judge};
 ghost use Rattle.poll_core.specs.Refusals.{table, first_refusal};
@@ -11,8 +11,8 @@ ghost use Rattle.poll_core.specs.Refusals.{table, first_refusal};
 use crate::checks::{check_exchange, check_server};
 use crate::exchange::Exchange;
 use crate::{PollRefusal, request};
-use feed_link::Address;
 use ntp_packet::{HEADER_LENGTH, read};
+use outside_traits::Address;
 use tick_units::{Local, Sample, Stamp};
 
 /// The exchanges of one poller with one server (RFC 5905, section 8).
@@ -66,7 +66,7 @@ impl Poll {
             HasPolled self.new server (history ++ Answered at from bytes.now ∷ []) }
         ensures judged { (server : Address) (history : List Event) → HasPolled self.old server history →
             result ≡ judge server history at from bytes.now }
-        ensures lawful { IfOk result IsLawful }
+        ensures valid { IfOk result IsValid }
         ensures asked { OnOk result (asked_at self.new ≡ None) }
         ensures unchanged { OnErr result (self.new ≡ self.old) }
     {

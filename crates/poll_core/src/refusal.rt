@@ -2,7 +2,7 @@
 ghost use Rattle.std.specs.Prelude.{◌≡◌};
 ghost use Rattle.poll_core.specs.Refusals.{code_of, TableIsByNumber};
 
-use feed_link::Address;
+use outside_traits::Address;
 use tick_units::{Short, Stamp};
 
 /// Why a datagram is not taken as the answer to a poll (RFC 5905, section 8 and appendix A.5.1.1). Of several reasons the first

@@ -1,11 +1,11 @@
 -- The lemmas of this crate.
 pub mod LineLaws
 pub mod FlagLaws
-pub mod FrontLaws
-pub mod LawfulLaws
+pub mod PrefixLaws
+pub mod ValidLaws
 pub mod LogLaws
 pub mod ReaderLaws
-pub mod FrontsLaws
+pub mod PrefixesLaws
 pub mod NumberLaws
 pub mod WholeLaws
 mod WordLaws

@@ -35,10 +35,10 @@ first_digit first len e nought = elim (or_cases (not (eqb first 48)) (eqb len 1)
 
 text_is : (text : List ℕ) (n : ℕ) → n < 2 ^ 64 → IsText text n → text ≡ decimal n
 text_is text n small h =
-    let front = and_parts (all_ascii_digits text && ltb 0 (length text)) _ h.number in
-    let digits = and_parts (all_ascii_digits text) (ltb 0 (length text)) front.0 in
+    let prefix = and_parts (all_ascii_digits text && ltb 0 (length text)) _ h.number in
+    let digits = and_parts (all_ascii_digits text) (ltb 0 (length text)) prefix.0 in
     let value = h.value in
-    sym (ap decimal value ∙ decimal-digits_value own text digits.0 (ltb-true 0 (length text) digits.1) (first_digit (get_or text 0 0) (length text) front.1) (omega arith))
+    sym (ap decimal value ∙ decimal-digits_value own text digits.0 (ltb-true 0 (length text) digits.1) (first_digit (get_or text 0 0) (length text) prefix.1) (omega arith))
 
 -- a number's text in decimal
 pub decimal_of : (text : List ℕ) (n : ℕ) → n < 2 ^ 64 → number_of text ≡ Some n → text ≡ decimal n
@@ -97,14 +97,14 @@ spells line r e =
     let parts = made (number_of (take place line)) (number_of (drop (place + 1) line)) r e in
     let below = parts.below in
     let most = parts.most in
-    let front : take place line ≡ decimal r.at = decimal_of (take place line) r.at (omega arith) parts.at_is in
+    let prefix : take place line ≡ decimal r.at = decimal_of (take place line) r.at (omega arith) parts.at_is in
     let back : drop (place + 1) line ≡ decimal r.width = decimal_of (drop (place + 1) line) r.width (omega arith) parts.width_is in
     let some = decimal_nonempty r.width (omega arith) in
     let rest : length (drop (place + 1) line) ≡ length (decimal r.width) = ap length back in
     let within : place < length line = omega (arith, length-drop (place + 1) line) in
     let space : get_or line place 0 ≡ 32 = eqb-true (get_or line place 0) 32 (passes_at_first (λ (byte : ℕ). eqb byte 32) line 0 within) in
     record {
-      text = split_at_first (λ (byte : ℕ). eqb byte 32) line 0 within ∙ ap (λ (t : List ℕ). t ++ (get_or line place 0 ∷ drop (place + 1) line)) front ∙ ap (λ (t : List ℕ). decimal r.at ++ (get_or line place 0 ∷ t)) back ∙ ap (λ (byte : ℕ). decimal r.at ++ (byte ∷ decimal r.width)) space;
+      text = split_at_first (λ (byte : ℕ). eqb byte 32) line 0 within ∙ ap (λ (t : List ℕ). t ++ (get_or line place 0 ∷ drop (place + 1) line)) prefix ∙ ap (λ (t : List ℕ). decimal r.at ++ (get_or line place 0 ∷ t)) back ∙ ap (λ (byte : ℕ). decimal r.at ++ (byte ∷ decimal r.width)) space;
       at = parts.below;
       least = parts.least;
       most = parts.most;
@@ -128,12 +128,12 @@ place_is n more small =
 pub says : (at width : ℕ) → at < 2 ^ 50 → 1 ≤ width → width ≤ 2000000 → reduction_of (decimal at ++ 32 ∷ decimal width) ≡ Some (record { at = at; width = width })
 says at width below least most =
     let place = place_is at (decimal width) (omega arith) in
-    let front : take (length (decimal at)) (decimal at ++ 32 ∷ decimal width) ≡ decimal at = take-append_seam (decimal at) (32 ∷ decimal width) in
+    let prefix : take (length (decimal at)) (decimal at ++ 32 ∷ decimal width) ≡ decimal at = take-append_seam (decimal at) (32 ∷ decimal width) in
     let back : drop (length (decimal at) + 1) (decimal at ++ 32 ∷ decimal width) ≡ decimal width = drop-append-add (decimal at) (32 ∷ decimal width) 1 in
     let below_test = lt-ltb at (2 ^ 50) below in
     let least_test = le-leb 1 width least in
     let most_test = le-leb width 2000000 most in
-    rw (place, front, back, number_of_decimal at (omega arith), number_of_decimal width (omega arith), below_test, least_test, most_test) refl
+    rw (place, prefix, back, number_of_decimal at (omega arith), number_of_decimal width (omega arith), below_test, least_test, most_test) refl
 
 -- a line of 32 bytes or more says nothing
 pub long_line : (line : List ℕ) → 32 ≤ length line → reduction_of line ≡ None
@@ -141,7 +141,7 @@ long_line line long = none_of line (λ r e.
     let line_is = spells line r e in
     let below = line_is.at in
     let most = line_is.most in
-    let front = length-decimal-le 16 r.at (omega arith) (omega arith) (omega arith) in
+    let prefix = length-decimal-le 16 r.at (omega arith) (omega arith) (omega arith) in
     let back = length-decimal-le 7 r.width (omega arith) (omega arith) (omega arith) in
     let all = ap length line_is.text ∙ length-append (decimal r.at) (32 ∷ decimal r.width) in
     omega arith)

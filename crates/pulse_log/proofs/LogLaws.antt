@@ -7,7 +7,7 @@ use Rattle.tick_units.specs.Log.{Lines, lines_of, with_byte, reduction_of, pulse
 use Rattle.tick_units.specs.declared.marks.Reduction.{Reduction}
 use Rattle.pulse_log.specs.Reading.{least_after}
 use Rattle.pulse_log.proofs.LineLaws.{long_line}
-use Rattle.pulse_log.proofs.LawfulLaws.{at_least, at_least_none, at_least_some, lawful_push, lawful_stop, lawful_le}
+use Rattle.pulse_log.proofs.ValidLaws.{at_least, at_least_none, at_least_some, valid_push, valid_stop, valid_le}
 
 -- the lines with a byte at the end, which is a line feed or not
 abbrev add_by : Bool → ℕ → Lines → Lines
@@ -72,17 +72,17 @@ pulses_end : (bytes : List ℕ) (byte : ℕ) → eqb byte 10 ≡ true → length
 pulses_end bytes byte feed good =
     let says = map reduction_of (lines_of bytes).complete in
     let len = length-map (lines_of bytes).complete reduction_of in
-    rw (lines_end bytes byte feed, says_push (lines_of bytes).complete (lines_of bytes).unfinished) (lawful_push says (reduction_of (lines_of bytes).unfinished) (omega arith))
+    rw (lines_end bytes byte feed, says_push (lines_of bytes).complete (lines_of bytes).unfinished) (valid_push says (reduction_of (lines_of bytes).unfinished) (omega arith))
 
 pulses_stop : (bytes : List ℕ) (byte : ℕ) → eqb byte 10 ≡ true → length (pulses bytes) < length (lines_of bytes).complete → pulses (bytes ++ byte ∷ []) ≡ pulses bytes
 pulses_stop bytes byte feed bad =
     let says = map reduction_of (lines_of bytes).complete in
     let len = length-map (lines_of bytes).complete reduction_of in
-    rw (lines_end bytes byte feed, says_push (lines_of bytes).complete (lines_of bytes).unfinished) (lawful_stop says (reduction_of (lines_of bytes).unfinished) (omega arith))
+    rw (lines_end bytes byte feed, says_push (lines_of bytes).complete (lines_of bytes).unfinished) (valid_stop says (reduction_of (lines_of bytes).unfinished) (omega arith))
 
 pub pulses_le : (bytes : List ℕ) → length (pulses bytes) ≤ length (lines_of bytes).complete
 pulses_le bytes =
-    let le = lawful_le (map reduction_of (lines_of bytes).complete) in
+    let le = valid_le (map reduction_of (lines_of bytes).complete) in
     let len = length-map (lines_of bytes).complete reduction_of in
     omega arith
 
@@ -243,5 +243,5 @@ bad_or_not : (o : Option ℕ) (bytes more : List ℕ) → bad_line bytes ≡ o �
 bad_or_not None bytes more e none = e
 bad_or_not (Some n) bytes more e none = (let stays = bad_stays bytes more n e in cc)
 
-pub front_good : (bytes more : List ℕ) → bad_line (bytes ++ more) ≡ None → bad_line bytes ≡ None
-front_good bytes more none = bad_or_not (bad_line bytes) bytes more refl none
+pub prefix_good : (bytes more : List ℕ) → bad_line (bytes ++ more) ≡ None → bad_line bytes ≡ None
+prefix_good bytes more none = bad_or_not (bad_line bytes) bytes more refl none

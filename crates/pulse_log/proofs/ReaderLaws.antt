@@ -7,7 +7,7 @@ use Rattle.pulse_log.specs.Lines.{IsLine}
 use Rattle.pulse_log.specs.Reading.{HasRead, TakesByte, least_after, number_of_bad}
 use Rattle.pulse_log.specs.declared.reader.LineReader.{LineReader}
 use Rattle.pulse_log.specs.declared.reader.BadLine.{BadLine}
-use Rattle.pulse_log.proofs.LawfulLaws.{at_least, least_push}
+use Rattle.pulse_log.proofs.ValidLaws.{at_least, least_push}
 use Rattle.pulse_log.proofs.LogLaws.{lines_more, lines_end, complete_end, pulses_more, bad_reach, bad_end, bad_stays_one, good_of, good_more, good_end}
 
 fine : (reader : LineReader) (bytes : List ℕ) → HasRead reader bytes → reader.bad ≡ None → bad_line bytes ≡ None
@@ -32,9 +32,9 @@ stays reader bytes byte bad h kept =
 pub ends_badly : (old new : LineReader) (bytes : List ℕ) (bad : BadLine) → HasRead old bytes → old.bad ≡ None →
     at_least (least_after (pulses bytes)) (reduction_of (lines_of bytes).unfinished) ≡ None →
     new.bad ≡ Some bad → bad.line ≡ old.lines + 1 → TakesByte new bytes 10 (Err bad)
-ends_badly old new bytes bad h none unlawful kept number =
+ends_badly old new bytes bad h none invalid kept number =
     let good = fine old bytes h none in
-    let next = bad_end bytes 10 refl (good_of bytes good).lines unlawful in
+    let next = bad_end bytes 10 refl (good_of bytes good).lines invalid in
     let is : bad_line (bytes ++ 10 ∷ []) ≡ Some bad.line = next.0 ∙ ap (λ (n : ℕ). Some (n + 1)) (sym (h.lines good)) ∙ ap (λ (n : ℕ). Some n) (sym number) in
     record { read = stopped new (bytes ++ 10 ∷ []) bad kept is; found = (is, next.1) }
 

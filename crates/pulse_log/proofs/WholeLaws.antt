@@ -10,11 +10,11 @@ use Rattle.std.proofs.lemmas.Str.Parse.{tells_all_ascii_digits}
 use Rattle.tick_units.specs.Log.{Lines, lines_of, reduction_of, pulses, bad_line}
 use Rattle.tick_units.specs.declared.marks.Reduction.{Reduction}
 use Rattle.pulse_log.specs.Lines.{IsLine}
-use Rattle.pulse_log.specs.Reading.{HasRead, TakesFront, least_after, number_of_bad}
+use Rattle.pulse_log.specs.Reading.{HasRead, TakesPrefix, least_after, number_of_bad}
 use Rattle.pulse_log.specs.Writing.{line_of}
 use Rattle.pulse_log.specs.declared.reader.LineReader.{LineReader}
 use Rattle.pulse_log.proofs.LineLaws.{own, says}
-use Rattle.pulse_log.proofs.LawfulLaws.{least_push}
+use Rattle.pulse_log.proofs.ValidLaws.{least_push}
 use Rattle.pulse_log.proofs.LogLaws.{lines_more, lines_end, complete_end, pulses_more, good_of, good_more, good_end}
 
 -- no byte of these is a line feed
@@ -36,41 +36,41 @@ line_goes_on r below most =
 
 line_short : (r : Reduction) → r.at < 2 ^ 50 → r.width ≤ 2000000 → length (line_of r) < 32
 line_short r below most =
-    let front = length-decimal-le 16 r.at (omega arith) (omega arith) (omega arith) in
+    let prefix = length-decimal-le 16 r.at (omega arith) (omega arith) (omega arith) in
     let back = length-decimal-le 7 r.width (omega arith) (omega arith) (omega arith) in
     let all = length-append (decimal r.at) (32 ∷ decimal r.width) in
     omega arith
 
 -- a log whose line goes on with these bytes
-record Lengthens (bytes front : List ℕ) : Type 0 where
-  good : bad_line (bytes ++ front) ≡ None
-  same : pulses (bytes ++ front) ≡ pulses bytes
-  lines : lines_of (bytes ++ front) ≡ record { complete = (lines_of bytes).complete; unfinished = (lines_of bytes).unfinished ++ front }
+record Lengthens (bytes prefix : List ℕ) : Type 0 where
+  good : bad_line (bytes ++ prefix) ≡ None
+  same : pulses (bytes ++ prefix) ≡ pulses bytes
+  lines : lines_of (bytes ++ prefix) ≡ record { complete = (lines_of bytes).complete; unfinished = (lines_of bytes).unfinished ++ prefix }
 
-lengthens : (bytes front : List ℕ) → HasNoFeed front → bad_line bytes ≡ None → length (lines_of bytes).unfinished + length front < 32 → Lengthens bytes front
+lengthens : (bytes prefix : List ℕ) → HasNoFeed prefix → bad_line bytes ≡ None → length (lines_of bytes).unfinished + length prefix < 32 → Lengthens bytes prefix
 lengthens bytes [] no_feed good short = record {
   good = ap bad_line (append-nil bytes) ∙ good;
   same = ap pulses (append-nil bytes);
   lines = ap lines_of (append-nil bytes) ∙ ap (λ (text : List ℕ). record { complete = (lines_of bytes).complete; unfinished = text }) (sym (append-nil (lines_of bytes).unfinished));
 }
-lengthens bytes (byte ∷ front) no_feed good short =
+lengthens bytes (byte ∷ prefix) no_feed good short =
     let next = good_more bytes byte no_feed.0 (good_of bytes good) (omega arith) in
     let longer = lines_more bytes byte no_feed.0 in
     let count = ap (λ (l : Lines). length l.unfinished) longer ∙ length_push (lines_of bytes).unfinished byte in
-    let rest = lengthens (bytes ++ byte ∷ []) front no_feed.1 next (omega arith) in
-    let regroup : (bytes ++ byte ∷ []) ++ front ≡ bytes ++ byte ∷ front = append_assoc bytes (byte ∷ []) front in
+    let rest = lengthens (bytes ++ byte ∷ []) prefix no_feed.1 next (omega arith) in
+    let regroup : (bytes ++ byte ∷ []) ++ prefix ≡ bytes ++ byte ∷ prefix = append_assoc bytes (byte ∷ []) prefix in
     record {
       good = ap bad_line (sym regroup) ∙ rest.good;
       same = ap pulses (sym regroup) ∙ rest.same ∙ pulses_more bytes byte no_feed.0;
       lines = ap lines_of (sym regroup) ∙ rest.lines
-          ∙ ap (λ (l : Lines). record { complete = l.complete; unfinished = l.unfinished ++ front }) longer
-          ∙ ap (λ (text : List ℕ). record { complete = (lines_of bytes).complete; unfinished = text }) (append_assoc (lines_of bytes).unfinished (byte ∷ []) front);
+          ∙ ap (λ (l : Lines). record { complete = l.complete; unfinished = l.unfinished ++ prefix }) longer
+          ∙ ap (λ (text : List ℕ). record { complete = (lines_of bytes).complete; unfinished = text }) (append_assoc (lines_of bytes).unfinished (byte ∷ []) prefix);
     }
 
 -- a valid line that comes whole, after a log whose last line has ended
 pub takes_whole : (old new : LineReader) (bytes : List ℕ) (r : Reduction) → HasRead old bytes → old.bad ≡ None → old.line.length ≡ 0 → old.least ≤ r.at →
     r.at < 2 ^ 50 → 1 ≤ r.width → r.width ≤ 2000000 → new.line ≡ old.line → new.lines ≡ old.lines + 1 → new.least ≡ r.at + 1 → new.bad ≡ None →
-    TakesFront new bytes (line_of r ++ 10 ∷ []) (Ok (Some r))
+    TakesPrefix new bytes (line_of r ++ 10 ∷ []) (Ok (Some r))
 takes_whole old new bytes r h none empty late below least most line lines start still =
     let text = line_of r in
     let good : bad_line bytes ≡ None = sym h.bad ∙ ap number_of_bad none in
@@ -78,7 +78,7 @@ takes_whole old new bytes r h none empty late below least most line lines start 
     let count = kept.length in
     let nothing : (lines_of bytes).unfinished ≡ [] = nil_from_length (lines_of bytes).unfinished (omega arith) in
     let longer = lengthens bytes text (line_goes_on r below most) good (omega (arith, line_short r below most)) in
-    let unfinished : (lines_of (bytes ++ text)).unfinished ≡ text = ap (λ (l : Lines). l.unfinished) longer.lines ∙ ap (λ (front : List ℕ). front ++ text) nothing in
+    let unfinished : (lines_of (bytes ++ text)).unfinished ≡ text = ap (λ (l : Lines). l.unfinished) longer.lines ∙ ap (λ (prefix : List ℕ). prefix ++ text) nothing in
     let after = h.least good in
     let still_after = ap least_after longer.same in
     let ended = bytes ++ text in
@@ -106,11 +106,11 @@ pub line_is : (bytes rest : List ℕ) (space feed at width : ℕ) → rest ≡ d
     take feed rest ≡ decimal width → feed < length rest → get_or rest feed 0 ≡ 10 → take (space + feed + 2) bytes ≡ (decimal at ++ 32 ∷ decimal width) ++ 10 ∷ []
 line_is bytes rest space feed at width rest_is start start_in space_is last last_in feed_is =
     let sum : space + feed + 2 ≡ (space + 1) + (feed + 1) = omega arith in
-    let front : take (space + 1) bytes ≡ decimal at ++ 32 ∷ [] = take_more bytes space 0 start_in ∙ ap (λ (t : List ℕ). t ++ get_or bytes space 0 ∷ []) start ∙ ap (λ (byte : ℕ). decimal at ++ byte ∷ []) space_is in
+    let prefix : take (space + 1) bytes ≡ decimal at ++ 32 ∷ [] = take_more bytes space 0 start_in ∙ ap (λ (t : List ℕ). t ++ get_or bytes space 0 ∷ []) start ∙ ap (λ (byte : ℕ). decimal at ++ byte ∷ []) space_is in
     let back : take (feed + 1) rest ≡ decimal width ++ 10 ∷ [] = take_more rest feed 0 last_in ∙ ap (λ (t : List ℕ). t ++ get_or rest feed 0 ∷ []) last ∙ ap (λ (byte : ℕ). decimal width ++ byte ∷ []) feed_is in
     ap (λ (n : ℕ). take n bytes) sum ∙ take-add (space + 1) (feed + 1) bytes
     ∙ ap (λ (t : List ℕ). take (space + 1) bytes ++ take (feed + 1) t) (sym rest_is)
-    ∙ ap (λ (t : List ℕ). t ++ take (feed + 1) rest) front
+    ∙ ap (λ (t : List ℕ). t ++ take (feed + 1) rest) prefix
     ∙ ap (λ (t : List ℕ). (decimal at ++ 32 ∷ []) ++ t) back
     ∙ append_assoc (decimal at) (32 ∷ []) (decimal width ++ 10 ∷ [])
     ∙ sym (append_assoc (decimal at) (32 ∷ decimal width) (10 ∷ []))

@@ -4,7 +4,7 @@ use Rattle.std.specs.Prelude.{◌≡◌, ℕ, ◌==◌, None, List, [], ◌∷�
 use Rattle.tick_units.specs.Log.{reduction_of}
 use Rattle.pulse_log.specs.declared.line.Line.{Line}
 use Rattle.pulse_log.specs.declared.line.Part.{Part}
-use Rattle.pulse_log.specs.declared.line.Part.TheVariants.{Start, Zero, Width, Unlawful}
+use Rattle.pulse_log.specs.declared.line.Part.TheVariants.{Start, Zero, Width, Invalid}
 
 -- no line that begins with this text is valid
 abbrev pub IsDead : List ℕ → Type 0
@@ -19,7 +19,7 @@ abbrev pub EndsIn : Part → ℕ → ℕ → List ℕ → Type 0
 EndsIn Start start width text = (width ≡ 0) × (text ≡ digits_so_far start)
 EndsIn Zero start width text = (width ≡ 0) × (start ≡ 0) × (text ≡ decimal 0)
 EndsIn Width start width text = text ≡ decimal start ++ 32 ∷ digits_so_far width
-EndsIn Unlawful start width text = IsDead text
+EndsIn Invalid start width text = IsDead text
 
 pub record IsLine (line : Line) (text : List ℕ) : Type 0 where
   pub part : EndsIn line.part line.start line.width text

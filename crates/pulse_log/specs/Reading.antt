@@ -25,18 +25,18 @@ pub record HasRead (reader : LineReader) (bytes : List ℕ) : Type 0 where
   pub least : bad_line bytes ≡ None → reader.least ≡ least_after (pulses bytes)
 
 -- a prefix of what comes is taken. The result says what it adds: a reduction, or the bad line that the log has from then on.
-pub record TakesFront (new : LineReader) (bytes front : List ℕ) (result : Result (Option Reduction) BadLine) : Type 0 where
-  pub read : HasRead new (bytes ++ front)
+pub record TakesPrefix (new : LineReader) (bytes prefix : List ℕ) (result : Result (Option Reduction) BadLine) : Type 0 where
+  pub read : HasRead new (bytes ++ prefix)
   pub found : MatchResult result
-      (λ found. (bad_line (bytes ++ front) ≡ None) × (pulses (bytes ++ front) ≡ pulses bytes ++ option_to_list found))
-      (λ bad. (bad_line (bytes ++ front) ≡ Some bad.line) × (pulses (bytes ++ front) ≡ pulses bytes))
+      (λ found. (bad_line (bytes ++ prefix) ≡ None) × (pulses (bytes ++ prefix) ≡ pulses bytes ++ option_to_list found))
+      (λ bad. (bad_line (bytes ++ prefix) ≡ Some bad.line) × (pulses (bytes ++ prefix) ≡ pulses bytes))
 
 -- the same with only the next byte
 abbrev pub TakesByte : LineReader → List ℕ → ℕ → Result (Option Reduction) BadLine → Type 0
-TakesByte new bytes byte result = TakesFront new bytes (byte ∷ []) result
+TakesByte new bytes byte result = TakesPrefix new bytes (byte ∷ []) result
 
 -- a prefix of what comes ends no line and makes none bad
-pub record GoesOn (new : LineReader) (bytes front : List ℕ) : Type 0 where
-  pub read : HasRead new (bytes ++ front)
-  pub bad : bad_line (bytes ++ front) ≡ bad_line bytes
-  pub same : pulses (bytes ++ front) ≡ pulses bytes
+pub record GoesOn (new : LineReader) (bytes prefix : List ℕ) : Type 0 where
+  pub read : HasRead new (bytes ++ prefix)
+  pub bad : bad_line (bytes ++ prefix) ≡ bad_line bytes
+  pub same : pulses (bytes ++ prefix) ≡ pulses bytes

@@ -25,7 +25,7 @@ abbrev pub WritesNumber : ℕ → ℕ → Type 0
 WritesNumber word number = (digits : List ℕ) → IsEightDigits digits → word ≡ number_l 256 digits → number ≡ number_from_digits 10 digits
 
 -- the first `count` bytes are digits, and this is the number that they write
-pub record SpellsFront (bytes : List ℕ) (count number : ℕ) : Type 0 where
+pub record SpellsPrefix (bytes : List ℕ) (count number : ℕ) : Type 0 where
   pub within : count ≤ length bytes
   pub digits : AllDigits 10 (take count bytes)
   pub value : number ≡ digits_value 10 (take count bytes)

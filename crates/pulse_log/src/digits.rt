@@ -1,6 +1,6 @@
 //! The digits at the beginning of eight bytes, which are read as one word.
 ghost use Rattle.std.specs.Prelude.{◌≡◌, ◌+◌, ◌*◌, ◌%◌, ◌-◌, ◌^◌, ◌<◌, ◌≤◌, ℕ, List, IfSome};
-ghost use Rattle.pulse_log.specs.Words.{IsWordOf, FlagsFromTen, WritesNumber, SpellsFront};
+ghost use Rattle.pulse_log.specs.Words.{IsWordOf, FlagsFromTen, WritesNumber, SpellsPrefix};
 
 use crate::taken::Taken;
 
@@ -48,7 +48,7 @@ fn keep_first(word: u64, count: u32) -> u64
 #[inline]
 fn digits_of(word: u64) -> Taken<u64>
     ensures most { result.count ≤ 8 }
-    ensures read { (bytes : List ℕ) → IsWordOf bytes word → SpellsFront bytes result.count result.found }
+    ensures read { (bytes : List ℕ) → IsWordOf bytes word → SpellsPrefix bytes result.count result.found }
 {
     let less_zero = word ^ ZEROS;
     let others = flags_from_ten(less_zero);
@@ -69,7 +69,7 @@ fn digits_of(word: u64) -> Taken<u64>
 #[inline]
 fn digits_in_eight(bytes: &[u8; 8]) -> Taken<u64>
     ensures most { result.count ≤ 8 }
-    ensures read { SpellsFront bytes.now result.count result.found }
+    ensures read { SpellsPrefix bytes.now result.count result.found }
 {
     digits_of(u64::from_le_bytes(*bytes))
 }
@@ -94,32 +94,32 @@ fn ten_to(power: usize) -> u64
 
 // Eight digits and fewer than eight after them.
 #[inline]
-fn joined(front: Taken<u64>, back: Taken<u64>) -> Taken<u64>
-    requires eight { front.found < 10 ^ 8 }
+fn joined(prefix: Taken<u64>, back: Taken<u64>) -> Taken<u64>
+    requires eight { prefix.found < 10 ^ 8 }
     requires fewer { back.count < 8 }
     requires back { back.found < 10 ^ back.count }
     ensures count { result.count ≡ 8 + back.count }
-    ensures value { result.found ≡ front.found * 10 ^ back.count + back.found }
+    ensures value { result.found ≡ prefix.found * 10 ^ back.count + back.found }
 {
     Taken {
         count: 8 + back.count,
-        found: front.found * ten_to(back.count) + back.found,
+        found: prefix.found * ten_to(back.count) + back.found,
     }
 }
 
 /// The digits at the beginning of some bytes. None where there are more than fifteen, or where fewer than eight bytes follow the
 /// last whole group of eight digits.
 #[inline(always)]
-pub fn digits_in_front(bytes: &[u8]) -> Option<Taken<u64>>
+pub fn leading_digits(bytes: &[u8]) -> Option<Taken<u64>>
     ensures most { IfSome result (λ digits. digits.count ≤ 15) }
-    ensures read { IfSome result (λ digits. SpellsFront bytes.now digits.count digits.found) }
+    ensures read { IfSome result (λ digits. SpellsPrefix bytes.now digits.count digits.found) }
 {
     let Some((eight, rest)) = bytes.split_first_chunk::<8>() else {
         return None;
     };
-    let front = digits_in_eight(eight);
-    if front.count < 8 {
-        return Some(front);
+    let prefix = digits_in_eight(eight);
+    if prefix.count < 8 {
+        return Some(prefix);
     }
     let Some((next, _)) = rest.split_first_chunk::<8>() else {
         return None;
@@ -128,5 +128,5 @@ pub fn digits_in_front(bytes: &[u8]) -> Option<Taken<u64>>
     if back.count == 8 {
         return None;
     }
-    Some(joined(front, back))
+    Some(joined(prefix, back))
 }

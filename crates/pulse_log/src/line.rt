@@ -21,7 +21,7 @@ pub enum Part {
     /// The space, or the digits of the width after it.
     Width,
     /// No valid line begins as this one does.
-    Unlawful,
+    Invalid,
 }
 
 /// What is kept of an unfinished line: its numbers so far and its length, and not its text.
@@ -68,7 +68,7 @@ impl Line {
         match byte {
             b'0'..=b'9' => self.add_digit(byte - b'0'),
             b' ' => self.add_space(),
-            _ => self.part = Part::Unlawful,
+            _ => self.part = Part::Invalid,
         }
     }
 
@@ -87,7 +87,7 @@ impl Line {
                 } else if start == 0 {
                     self.part = Part::Zero;
                 } else {
-                    self.part = Part::Unlawful;
+                    self.part = Part::Invalid;
                 }
             }
             Part::Width => {
@@ -95,11 +95,11 @@ impl Line {
                 if NARROWEST <= width && width <= WIDEST {
                     self.width = width;
                 } else {
-                    self.part = Part::Unlawful;
+                    self.part = Part::Invalid;
                 }
             }
-            Part::Zero => self.part = Part::Unlawful,
-            Part::Unlawful => {}
+            Part::Zero => self.part = Part::Invalid,
+            Part::Invalid => {}
         }
     }
 
@@ -112,7 +112,7 @@ impl Line {
         match self.part {
             Part::Start if 0 < self.start => self.part = Part::Width,
             Part::Zero => self.part = Part::Width,
-            _ => self.part = Part::Unlawful,
+            _ => self.part = Part::Invalid,
         }
     }
 

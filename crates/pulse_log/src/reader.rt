@@ -3,7 +3,7 @@ ghost use Rattle.std.specs.Prelude.{◌≡◌, true, ℕ, ◌+◌, ◌<◌, ◌�
 
 use crate::line::Line;
 use crate::taken::Taken;
-use crate::whole::line_in_front;
+use crate::whole::leading_line;
 use tick_units::Reduction;
 
 // A line has at most this number of bytes before its line feed.
@@ -31,7 +31,7 @@ pub struct LineReader {
 impl LineReader {
     ghost use Rattle.std.specs.Prelude.{◌∷◌, ◌++◌, [], List, MatchResult, None, Some, Ok};
     ghost use Rattle.tick_units.specs.Log.{bad_at_end};
-    ghost use Rattle.pulse_log.specs.Reading.{HasRead, GoesOn, TakesByte, TakesFront};
+    ghost use Rattle.pulse_log.specs.Reading.{HasRead, GoesOn, TakesByte, TakesPrefix};
     ghost use Rattle.pulse_log.specs.Writing.{line_of};
 
     /// The reader that has taken no byte.
@@ -77,12 +77,12 @@ impl LineReader {
         ensures some { IfSome result (λ line. 0 < line.count) }
         ensures within { IfSome result (λ line. line.count ≤ length bytes.now) }
         ensures taken { (before : List ℕ) → HasRead self.old before → IfSome result (λ line.
-            TakesFront self.new before (take line.count bytes.now) (Ok (Some line.found))) }
+            TakesPrefix self.new before (take line.count bytes.now) (Ok (Some line.found))) }
     {
         if !self.is_between_lines() {
             return None;
         }
-        let line = line_in_front(bytes)?;
+        let line = leading_line(bytes)?;
         if self.is_early(&line.found) {
             return None;
         }
@@ -115,7 +115,7 @@ impl LineReader {
         requires narrowest { 1 ≤ found.width }
         requires widest { found.width ≤ 2000000 }
         ensures { (before : List ℕ) → HasRead self.old before →
-            TakesFront self.new before (line_of found ++ 10 ∷ []) (Ok (Some found)) }
+            TakesPrefix self.new before (line_of found ++ 10 ∷ []) (Ok (Some found)) }
     {
         self.lines += 1;
         self.least = found.at.get() + 1;
@@ -130,7 +130,7 @@ impl LineReader {
         ensures some { 0 < result.count }
         ensures within { result.count ≤ length bytes.now }
         ensures taken { (before : List ℕ) → HasRead self.old before →
-            TakesFront self.new before (take result.count bytes.now) result.found }
+            TakesPrefix self.new before (take result.count bytes.now) result.found }
     {
         let count = self.go_on(bytes);
         match bytes.get(count) {

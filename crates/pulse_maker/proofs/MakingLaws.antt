@@ -3,7 +3,7 @@ use Rattle.std.proofs.Common.{◌≡◌, ℕ, zero, suc, ◌+◌, ◌-◌, ◌�
 use Rattle.std.specs.List.{flat_map, range_with_len}
 use Rattle.std.proofs.lemmas.List.{append-nil}
 use Rattle.std.proofs.lemmas.List.Concat.{flat_map-append}
-use Rattle.feed_link.specs.Told.{SinkState}
+use Rattle.outside_traits.specs.States.{SinkState}
 use Rattle.tick_units.specs.declared.marks.Plan.{Plan}
 use Rattle.tick_units.specs.declared.marks.Symbol.{Symbol}
 use Rattle.pulse_maker.specs.Minutes.{symbols_of, seconds_from, index_of, opening_index, opening_symbols, closing_symbols, begun, seconds_of}
@@ -46,12 +46,12 @@ minute_same plan first seed m index symbols e f =
     ∙ sym (begun_more plan first seed m) ∙ ap (begun plan first seed) next
 
 -- the first minutes begin a log of more of them
-begun_front : (plan : Plan) (first seed m k n : ℕ) → n ≡ m + k → (more : List Second) × (begun plan first seed n ≡ begun plan first seed m ++ more)
-begun_front plan first seed m zero n e =
+begun_prefix : (plan : Plan) (first seed m k n : ℕ) → n ≡ m + k → (more : List Second) × (begun plan first seed n ≡ begun plan first seed m ++ more)
+begun_prefix plan first seed m zero n e =
     let same : n ≡ m = omega (arith, e) in
     ([], ap (begun plan first seed) same ∙ sym (append-nil (begun plan first seed m)))
-begun_front plan first seed m (suc k) n e =
-    let rest = begun_front plan first seed m k (m + k) refl in
+begun_prefix plan first seed m (suc k) n e =
+    let rest = begun_prefix plan first seed m k (m + k) refl in
     let next : n ≡ suc (m + k) = omega (arith, e) in
     let one = minute_seconds plan first seed (m + k) in
     (rest.0 ++ one, ap (begun plan first seed) next ∙ begun_more plan first seed (m + k) ∙ ap (λ (l : List Second). l ++ one) rest.1 ∙ append_assoc (begun plan first seed m) rest.0 one)
@@ -60,7 +60,7 @@ begun_front plan first seed m (suc k) n e =
 pub stopped_at : (plan : Plan) (start first seed minutes m : ℕ) (begin out_now : SinkState) → m ≤ minutes
     → HasStopped plan start begin out_now (begun plan first seed m) → HasStopped plan start begin out_now (seconds_of plan first minutes seed)
 stopped_at plan start first seed minutes m begin out_now le h =
-    let front = begun_front plan first seed m (minutes - m) minutes (omega (arith, le)) in
+    let prefix = begun_prefix plan first seed m (minutes - m) minutes (omega (arith, le)) in
     let closing = seconds_from (index_of minutes) (closing_symbols plan) in
     stopped_more plan start begin out_now (begun plan first seed minutes) closing
-    (subst (λ (l : List Second). HasStopped plan start begin out_now l) (sym front.1) (stopped_more plan start begin out_now (begun plan first seed m) front.0 h))
+    (subst (λ (l : List Second). HasStopped plan start begin out_now l) (sym prefix.1) (stopped_more plan start begin out_now (begun plan first seed m) prefix.0 h))

@@ -3,8 +3,8 @@ use Rattle.std.proofs.Common.{◌≡◌, ℕ, zero, suc, List, [], ◌∷◌, re
 use Rattle.std.specs.Prelude.{set}
 
 -- of a beginning of a list the same item is changed
-pub front_set : {A : Type 0} (n : ℕ) (xs : List A) (i : ℕ) (x : A) → take n (set xs i x) ≡ set (take n xs) i x
-front_set zero xs i x = refl
-front_set (suc n) [] i x = refl
-front_set (suc n) (y ∷ ys) zero x = refl
-front_set (suc n) (y ∷ ys) (suc i) x = ap (λ l. y ∷ l) (front_set n ys i x)
+pub prefix_set : {A : Type 0} (n : ℕ) (xs : List A) (i : ℕ) (x : A) → take n (set xs i x) ≡ set (take n xs) i x
+prefix_set zero xs i x = refl
+prefix_set (suc n) [] i x = refl
+prefix_set (suc n) (y ∷ ys) zero x = refl
+prefix_set (suc n) (y ∷ ys) (suc i) x = ap (λ l. y ∷ l) (prefix_set n ys i x)

@@ -8,10 +8,10 @@ use Rattle.tick_units.specs.declared.marks.Plan.{Plan}
 use Rattle.tick_units.specs.declared.marks.Reduction.{Reduction}
 use Rattle.tick_units.specs.declared.marks.Symbol.{Symbol}
 use Rattle.tick_units.specs.declared.marks.Symbol.TheVariants.{Zero, One, OnlyB, Both, Long, Odd}
-use Rattle.frame_rules.proofs.SentLaws.{can_stand, every_one, spoilt_count}
+use Rattle.frame_rules.proofs.SentLaws.{can_stand, every_one, damaged_count}
 use Rattle.code_plans.proofs.Sent.{fits}
 use Rattle.pulse_maker.specs.Made.{width_of, start_of, parts_of, number_from, reductions_from, made, seeded, text_of, IsReadAs}
-use Rattle.pulse_maker.specs.Minutes.{spelt_by, symbols_of, is_spoilt, coded_of, seconds_from, opening_index, opening_symbols, closing_symbols, index_of, seconds_of}
+use Rattle.pulse_maker.specs.Minutes.{spelt_by, symbols_of, is_damaged, coded_of, seconds_from, opening_index, opening_symbols, closing_symbols, index_of, seconds_of}
 use Rattle.pulse_maker.specs.declared.seconds.Second.{Second}
 use Rattle.pulse_maker.proofs.MakingLaws.{minute_seconds}
 use Rattle.pulse_maker.proofs.ReadLaws.{Rises, is_read}
@@ -73,7 +73,7 @@ minutes_in_order plan first seed m (suc k) n least more e few le h =
     let one = minute_seconds plan first seed in
     let rest = flat_map one (range_with_len (m + 1) k) in
     let symbols = symbols_of plan first seed m in
-    let short : length symbols ≤ 60 = omega (arith, spoilt_count (is_spoilt seed m) (spelt_by plan (coded_of first m)), (fits plan).minute (coded_of first m)) in
+    let short : length symbols ≤ 60 = omega (arith, damaged_count (is_damaged seed m) (spelt_by plan (coded_of first m)), (fits plan).minute (coded_of first m)) in
     subst (λ (l : List Second). InOrder least l) (sym (append_assoc (one m) rest more))
     (seconds_in_order (index_of m) symbols least (index_of (m + 1)) (rest ++ more) le (omega (arith, short)) (omega (arith, e, few))
     (minutes_in_order plan first seed (m + 1) k n (index_of (m + 1)) more (omega (arith, e)) few (omega arith) h))

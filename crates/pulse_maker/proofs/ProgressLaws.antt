@@ -2,16 +2,16 @@
 use Rattle.std.proofs.Common.{◌≡◌, ℕ, suc, ◌+◌, List, [], ◌∷◌, ◌++◌, length, refl, sym, ap, ◌∙◌, subst, arith, append_assoc}
 use Rattle.std.proofs.lemmas.List.{append-nil, length-append}
 use Rattle.std.proofs.lemmas.List.Concat.{flat_map-append}
-use Rattle.feed_link.specs.Told.{SinkState}
+use Rattle.outside_traits.specs.States.{SinkState}
 use Rattle.pulse_log.specs.Writing.{line_of}
 use Rattle.tick_units.specs.declared.marks.Plan.{Plan}
 use Rattle.tick_units.specs.declared.marks.Reduction.{Reduction}
 use Rattle.pulse_maker.specs.Made.{number_after, number_from, start_of, parts_of, reductions_from, reductions_of, text_of}
 use Rattle.pulse_maker.specs.Progress.{text_from, HasWritten, HasStopped}
-use Rattle.sink_text.specs.Writing.{WritesAll, WritesFront}
+use Rattle.sink_text.specs.Writing.{WritesAll, WritesPrefix}
 use Rattle.pulse_maker.specs.declared.seconds.Second.{Second}
 use Rattle.pulse_maker.specs.declared.writer.LogWriter.{LogWriter}
-use Rattle.sink_text.proofs.WritingLaws.{writes_more, writes_front, front_of_both}
+use Rattle.sink_text.proofs.WritingLaws.{writes_more, writes_prefix, prefix_of_both}
 
 -- the reductions of some seconds and of those after them
 pub reductions_append : (plan : Plan) (start j n : ℕ) (xs ys : List Second) → n ≡ j + length xs
@@ -74,17 +74,17 @@ written_push plan start begin out out_now log log_now seconds second by number l
 -- a write of it failed
 pub stopped_push : (plan : Plan) (start now : ℕ) (begin out out_now : SinkState) (log : LogWriter) (seconds : List Second) (second : Second)
     → now ≡ number_after log.number
-    → WritesFront out out_now (text_of (parts_of log.plan (start_of second.index now) second.symbol))
+    → WritesPrefix out out_now (text_of (parts_of log.plan (start_of second.index now) second.symbol))
     → HasWritten plan start begin log out seconds → HasStopped plan start begin out_now (seconds ++ second ∷ [])
 stopped_push plan start now begin out out_now log seconds second number text h =
-    subst (λ t. WritesFront begin out_now t) (sym (text_push plan start seconds second))
-    (writes_front begin out out_now (text_from plan start seconds) (text_of (next_parts plan start seconds second)) h.text
-    (subst (λ (l : List Reduction). WritesFront out out_now (text_of l)) (parts_same plan log.plan start log.number now seconds second h.by h.number number) text))
+    subst (λ t. WritesPrefix begin out_now t) (sym (text_push plan start seconds second))
+    (writes_prefix begin out out_now (text_from plan start seconds) (text_of (next_parts plan start seconds second)) h.text
+    (subst (λ (l : List Reduction). WritesPrefix out out_now (text_of l)) (parts_same plan log.plan start log.number now seconds second h.by h.number number) text))
 
 -- a beginning of the text of some seconds is one of the text of more of them
 pub stopped_more : (plan : Plan) (start : ℕ) (begin out_now : SinkState) (xs ys : List Second) → HasStopped plan start begin out_now xs → HasStopped plan start begin out_now (xs ++ ys)
 stopped_more plan start begin out_now xs ys h =
-    let behind = reductions_from plan start (suc (length xs)) ys in
-    subst (λ t. WritesFront begin out_now t)
-    (sym (ap text_of (reductions_append plan start 1 (suc (length xs)) xs ys (omega arith)) ∙ text_append (reductions_of plan start xs) behind))
-    (front_of_both begin out_now (text_from plan start xs) (text_of behind) h)
+    let later = reductions_from plan start (suc (length xs)) ys in
+    subst (λ t. WritesPrefix begin out_now t)
+    (sym (ap text_of (reductions_append plan start 1 (suc (length xs)) xs ys (omega arith)) ∙ text_append (reductions_of plan start xs) later))
+    (prefix_of_both begin out_now (text_from plan start xs) (text_of later) h)

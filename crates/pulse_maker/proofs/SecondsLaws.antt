@@ -2,7 +2,7 @@
 use Rattle.std.proofs.Common.{◌≡◌, ℕ, zero, suc, ◌+◌, ◌<◌, List, [], ◌∷◌, ◌++◌, length, take, refl, sym, ap, ◌∙◌, subst, arith, append_assoc}
 use Rattle.std.specs.Prelude.{get_or}
 use Rattle.tick_units.specs.declared.marks.Symbol.{Symbol}
-use Rattle.feed_link.specs.Told.{SinkState}
+use Rattle.outside_traits.specs.States.{SinkState}
 use Rattle.tick_units.specs.declared.marks.Plan.{Plan}
 use Rattle.pulse_maker.specs.Minutes.{seconds_from}
 use Rattle.pulse_maker.specs.Progress.{HasStopped}
@@ -42,7 +42,7 @@ pub stopped_within : (plan : Plan) (start : ℕ) (begin out_now : SinkState) (be
     → HasStopped plan start begin out_now (before ++ seconds_from index symbols)
 stopped_within plan start begin out_now before index n symbols i symbol lt e is h =
     let split = split_seconds index (i + 1) symbols in
-    let front = seconds_from index (take (i + 1) symbols) in
-    subst (λ (l : List Second). HasStopped plan start begin out_now l) (append_assoc before front split.0 ∙ ap (λ (l : List Second). before ++ l) (sym split.1))
-    (stopped_more plan start begin out_now (before ++ front) split.0
+    let prefix = seconds_from index (take (i + 1) symbols) in
+    subst (λ (l : List Second). HasStopped plan start begin out_now l) (append_assoc before prefix split.0 ∙ ap (λ (l : List Second). before ++ l) (sym split.1))
+    (stopped_more plan start begin out_now (before ++ prefix) split.0
     (subst (λ (l : List Second). HasStopped plan start begin out_now l) (next_second before index n symbols i symbol lt e is) h))

@@ -5,13 +5,13 @@ use Rattle.std.specs.List.{flat_map, range_with_len}
 use Rattle.tick_units.specs.declared.marks.Plan.{Plan}
 use Rattle.tick_units.specs.declared.marks.Symbol.{Symbol}
 use Rattle.tick_units.specs.declared.verdicts.Coded.{Coded}
-use Rattle.frame_rules.specs.Sendings.{spoilt_if}
+use Rattle.frame_rules.specs.Sendings.{damaged_if}
 use Rattle.code_plans.specs.Codes.{sending_of}
 use Rattle.pulse_maker.specs.declared.seconds.Second.{Second}
 
 -- a minute of the log, counted from 0, is damaged: every 50th, but never the first of all
-abbrev pub is_spoilt : ℕ → ℕ → Bool
-is_spoilt seed minute = not (minute == 0) && minute % 50 == seed % 50
+abbrev pub is_damaged : ℕ → ℕ → Bool
+is_damaged seed minute = not (minute == 0) && minute % 50 == seed % 50
 
 -- what the frame of a minute says: the second at which the minute after it begins
 abbrev pub coded_of : ℕ → ℕ → Coded
@@ -21,7 +21,7 @@ abbrev pub spelt_by : Plan → Coded → List Symbol
 spelt_by plan c = (sending_of plan).spelt c
 
 abbrev pub symbols_of : Plan → ℕ → ℕ → ℕ → List Symbol
-symbols_of plan first seed minute = spoilt_if (is_spoilt seed minute) (spelt_by plan (coded_of first minute))
+symbols_of plan first seed minute = damaged_if (is_damaged seed minute) (spelt_by plan (coded_of first minute))
 
 -- the seconds that have these symbols, one after another from this index on
 abbrev pub seconds_from : ℕ → List Symbol → List Second

@@ -1,9 +1,9 @@
 -- Scaffolding, which contracts use: how far a log is written.
 use Rattle.std.specs.Prelude.{◌≡◌, ℕ, List, length}
-use Rattle.feed_link.specs.Told.{SinkState}
+use Rattle.outside_traits.specs.States.{SinkState}
 use Rattle.tick_units.specs.declared.marks.Plan.{Plan}
 use Rattle.pulse_maker.specs.Made.{number_from, reductions_of, text_of}
-use Rattle.sink_text.specs.Writing.{WritesAll, WritesFront}
+use Rattle.sink_text.specs.Writing.{WritesAll, WritesPrefix}
 use Rattle.pulse_maker.specs.declared.seconds.Second.{Second}
 use Rattle.pulse_maker.specs.declared.writer.LogWriter.{LogWriter}
 
@@ -20,4 +20,4 @@ pub record HasWritten (plan : Plan) (start : ℕ) (out : SinkState) (log : LogWr
 
 -- a write failed: the sink holds a prefix of their text
 abbrev pub HasStopped : Plan → ℕ → SinkState → SinkState → List Second → Type 0
-HasStopped plan start out out_now seconds = WritesFront out out_now (text_from plan start seconds)
+HasStopped plan start out out_now seconds = WritesPrefix out out_now (text_from plan start seconds)

@@ -2,11 +2,11 @@
 ghost use Rattle.std.specs.Prelude.{◌≡◌, ◌%◌, ◌≤◌, length, IfOk, OnOk, OnErr};
 ghost use Rattle.pulse_maker.specs.Made.{made, text_of, IsReadAs};
 ghost use Rattle.pulse_maker.specs.Minutes.{index_of};
-ghost use Rattle.sink_text.specs.Writing.{WritesAll, WritesFront};
+ghost use Rattle.sink_text.specs.Writing.{WritesAll, WritesPrefix};
 
 use crate::minutes::{FRAME_ROOM, closing_symbols, opening_index, opening_symbols, write_symbols};
 use crate::writer::LogWriter;
-use feed_link::{Failed, Sink};
+use outside_traits::{Failed, Sink};
 use tick_units::{Plan, Symbol};
 
 // The index of the second at which a minute, counted from 0, begins.
@@ -42,7 +42,7 @@ pub fn make<K: Sink>(
     // It is a valid log, in which a reader finds exactly these reductions.
     ensures read { IfOk result (λ _. IsReadAs (text_of (made plan first minutes seed)) (made plan first minutes seed)) }
     ensures failed { OnErr result
-        (WritesFront (K.state out.old) (K.state out.new) (text_of (made plan first minutes seed))) }
+        (WritesPrefix (K.state out.old) (K.state out.new) (text_of (made plan first minutes seed))) }
 {
     let mut log = LogWriter::new(plan, seed);
     log.write(opening_index(plan), opening_symbols(plan), out)?;

@@ -1,7 +1,7 @@
 //! What a log says in each of its minutes, and before and after them.
 ghost use Rattle.std.specs.Prelude.{◌≡◌, ◌+◌, ◌*◌, ◌%◌, ◌≤◌, ◌<◌, ◌++◌, false, length, take, drop};
 ghost use Rattle.tick_units.specs.declared.marks.Plan.{Plan};
-ghost use Rattle.pulse_maker.specs.Minutes.{is_spoilt, coded_of, spelt_by, symbols_of, opening_symbols, opening_index, closing_symbols};
+ghost use Rattle.pulse_maker.specs.Minutes.{is_damaged, coded_of, spelt_by, symbols_of, opening_symbols, opening_index, closing_symbols};
 
 use code_plans::{ListedSending, of_plan};
 use tick_units::{Coded, Plan, Symbol};
@@ -10,11 +10,11 @@ use tick_units::{Coded, Plan, Symbol};
 pub const FRAME_ROOM: usize = 61;
 
 // The place whose width is in no class in a damaged minute.
-const SPOILT_PLACE: usize = 30;
+const DAMAGED_PLACE: usize = 30;
 
 // Whether a minute, counted from 0, is damaged.
-fn is_spoilt(seed: u32, minute: u32) -> bool
-    ensures { result ≡ is_spoilt seed minute }
+fn is_damaged(seed: u32, minute: u32) -> bool
+    ensures { result ≡ is_damaged seed minute }
 {
     minute != 0 && minute % 50 == seed % 50
 }
@@ -68,8 +68,8 @@ pub fn write_symbols(
         summer: false,
     };
     let count = spell(plan, &coded, out);
-    if is_spoilt(seed, minute) {
-        out[SPOILT_PLACE] = Symbol::Odd;
+    if is_damaged(seed, minute) {
+        out[DAMAGED_PLACE] = Symbol::Odd;
     }
     count
 }

@@ -33,8 +33,8 @@ fn a_second_in_two_parts(rt: HostRuntime) -> Result<(), Fail> {
 
 // Every fiftieth minute is damaged, beginning with the seed's own one; the first of all never is.
 #[test]
-fn a_minute_is_spoilt_by_the_seed(rt: HostRuntime) {
-    for (seed, minute, spoilt) in [
+fn a_minute_is_damaged_by_the_seed(rt: HostRuntime) {
+    for (seed, minute, damaged) in [
         (0, 0, false),
         (0, 49, false),
         (0, 50, true),
@@ -55,7 +55,7 @@ fn a_minute_is_spoilt_by_the_seed(rt: HostRuntime) {
         same(&rt, count, 59);
         assert_eq!(rt;
             symbols[30] == Symbol::Odd,
-            spoilt,
+            damaged,
             "minute {minute} by {seed}"
         );
     }

@@ -1,16 +1,16 @@
 //! Writes the seconds of a log, one after another.
 ghost use Rattle.std.specs.Prelude.{◌≡◌, ℕ, ◌+◌, ◌*◌, ◌<◌, ◌≤◌, ◌^◌, List, [], ◌∷◌, ◌++◌, length, IfOk, OnOk, OnErr};
-ghost use Rattle.feed_link.specs.Told.{SinkState};
+ghost use Rattle.outside_traits.specs.States.{SinkState};
 ghost use Rattle.pulse_log.specs.Writing.{line_of};
 ghost use Rattle.tick_units.specs.declared.marks.Plan.{Plan};
 ghost use Rattle.pulse_maker.specs.Made.{seeded, width_of, parts_of, text_of};
 ghost use Rattle.pulse_maker.specs.Minutes.{seconds_from};
-ghost use Rattle.sink_text.specs.Writing.{WritesAll, WritesFront};
+ghost use Rattle.sink_text.specs.Writing.{WritesAll, WritesPrefix};
 ghost use Rattle.pulse_maker.specs.declared.seconds.Second.{Second};
 
 use crate::jitter::{number_after, seeded};
 use crate::seconds::{Second, reduction_at, start_of, width_of};
-use feed_link::{Failed, Sink};
+use outside_traits::{Failed, Sink};
 use pulse_log::write_line;
 use sink_text::write_all;
 use tick_units::{Plan, Reduction, Symbol};
@@ -33,7 +33,7 @@ fn write_reduction<K: Sink>(r: Reduction, out: &mut K) -> Result<(), Failed>
     requires some { 1 ≤ r.width }
     requires most { r.width ≤ 2000000 }
     ensures ok { OnOk result (WritesAll (K.state out.old) (K.state out.new) (text_of (r ∷ []))) }
-    ensures err { OnErr result (WritesFront (K.state out.old) (K.state out.new) (text_of (r ∷ []))) }
+    ensures err { OnErr result (WritesPrefix (K.state out.old) (K.state out.new) (text_of (r ∷ []))) }
 {
     let mut line = [0; 40];
     let length = write_line(r, &mut line);
@@ -45,7 +45,7 @@ fn write_whole<K: Sink>(plan: Plan, start: u64, symbol: Symbol, out: &mut K) -> 
     requires { start < 2 ^ 46 }
     ensures ok { OnOk result (WritesAll (K.state out.old) (K.state out.new)
         (text_of (record { at = start; width = width_of plan symbol } ∷ []))) }
-    ensures err { OnErr result (WritesFront (K.state out.old) (K.state out.new)
+    ensures err { OnErr result (WritesPrefix (K.state out.old) (K.state out.new)
         (text_of (record { at = start; width = width_of plan symbol } ∷ []))) }
 {
     write_reduction(reduction_at(start, width_of(plan, symbol)), out)
@@ -56,7 +56,7 @@ fn write_parts<K: Sink>(plan: Plan, start: u64, symbol: Symbol, out: &mut K) -> 
     requires { start < 2 ^ 45 }
     ensures ok { OnOk result (WritesAll (K.state out.old) (K.state out.new) (text_of (parts_of plan start symbol))) }
     ensures err { OnErr result
-        (WritesFront (K.state out.old) (K.state out.new) (text_of (parts_of plan start symbol))) }
+        (WritesPrefix (K.state out.old) (K.state out.new) (text_of (parts_of plan start symbol))) }
     ensures lines { IfOk result (λ n. n ≡ length (parts_of plan start symbol)) }
     ensures few { IfOk result (λ n. n ≤ 2) }
 {

@@ -3,9 +3,9 @@ use Rattle.std.proofs.Common.{◌≡◌, ℕ, ◌⊎◌, Option, Some, List, [],
 use Rattle.std.proofs.lemmas.List.{length-append}
 use Rattle.command_words.specs.Commands.{Asked}
 use Rattle.command_words.specs.Commands.Asked.{decode, drill, migrate, replay, serve}
-use Rattle.feed_link.specs.Faults.{Rose}
-use Rattle.feed_link.specs.Told.{SinkState}
-use Rattle.feed_link.specs.Openings.{Opening, OutsideState, log_visit, visited}
+use Rattle.outside_traits.specs.Faults.{Rose}
+use Rattle.outside_traits.specs.States.{SinkState}
+use Rattle.outside_traits.specs.Openings.{Opening, OutsideState, log_visit, visited}
 use Rattle.file_commands.specs.Effects.{Effect}
 use Rattle.file_commands.specs.Unopened.{Lacks}
 use Rattle.radio_engine.specs.Run.{Runs, IsComplete, IsFaultless, IsRun, orders_of}
@@ -19,9 +19,9 @@ use Rattle.replay_command.proofs.ScriptLaws.{script_readable}
 use Rattle.file_commands.proofs.MovingLaws.{one_line, short_line}
 use Rattle.file_commands.specs.Migrating.{journal_of}
 use Rattle.replay_command.specs.Replaying.{script_of}
-use Rattle.station_config.specs.Station.{settings_of}
+use Rattle.station_values.specs.Station.{settings_of}
 use Rattle.file_commands.specs.declared.ending.subject.Subject.TheVariants.{Journal, Script}
-use Rattle.station_config.specs.Station.{StationFields}
+use Rattle.station_values.specs.Station.{StationFields}
 
 -- where no write failed, the status is the one that was due
 answered : (due result : Status) (out out_now : SinkState) (text : List ℕ) → (Rose out.faults out_now.faults → ⊥) → Answers due result out out_now text → result ≡ due
@@ -29,8 +29,8 @@ answered due result out out_now text no_write (inl all) = all.0
 answered due result out out_now text no_write (inr failed) = absurd (no_write (rose_by_one out.faults out_now.faults failed.1.3))
 
 -- openings that were reported are there
-not_more : (told : Option (List Opening)) (before more : List Opening) (one : Opening) → told ≡ Some before → told ≡ Some (before ++ one ∷ more) → ⊥
-not_more told before more one were are =
+not_more : (reported : Option (List Opening)) (before more : List Opening) (one : Opening) → reported ≡ Some before → reported ≡ Some (before ++ one ∷ more) → ⊥
+not_more reported before more one were are =
     let same : before ≡ before ++ one ∷ more = (let e = sym were ∙ are in cc) in
     let len = ap length same in
     absurd (omega (arith, length-append before (one ∷ more)))

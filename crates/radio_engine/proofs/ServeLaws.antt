@@ -1,10 +1,10 @@
 -- For whoever has a station served: `serve` opens its logs and links and gives them back, `drill` makes up its logs.
 use Rattle.std.proofs.Common.{◌≡◌, ℕ, ◌∙◌, None, length, refl, sym, subst}
 use Rattle.std.specs.Prelude.{vec_len}
-use Rattle.feed_link.specs.ManyOut.{AreOut, GivesAllBack}
-use Rattle.feed_link.specs.Openings.{OutsideState}
-use Rattle.feed_link.specs.Told.{LinkState, SourceState}
-use Rattle.station_config.specs.Station.{StationFields, leap_feed}
+use Rattle.outside_traits.specs.ManyOut.{AreOut, GivesAllBack}
+use Rattle.outside_traits.specs.Openings.{OutsideState}
+use Rattle.outside_traits.specs.States.{LinkState, SourceState}
+use Rattle.station_values.specs.Station.{StationFields, leap_feed}
 use Rattle.crew_work.specs.Served.{Sights, seen, sights_of}
 use Rattle.crew_work.specs.declared.work.Orders.{Orders}
 use Rattle.station_crew.specs.declared.crew.Ended.{Ended}

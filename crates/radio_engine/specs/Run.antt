@@ -2,8 +2,8 @@
 use Rattle.std.specs.Prelude.{◌≡◌, ℕ, ◌≤◌, ◌⊎◌, List}
 use Rattle.command_words.specs.Commands.{Asked, AskFor}
 use Rattle.command_words.specs.Commands.Asked.{decode, drill, migrate, replay, serve}
-use Rattle.feed_link.specs.Faults.{Rose}
-use Rattle.feed_link.specs.Openings.{OutsideState}
+use Rattle.outside_traits.specs.Faults.{Rose}
+use Rattle.outside_traits.specs.Openings.{OutsideState}
 use Rattle.crew_work.specs.declared.work.Orders.{Orders}
 use Rattle.file_commands.specs.Decoding.{RunsDecode, HasGoodLog}
 use Rattle.file_commands.specs.Effects.{Effect}

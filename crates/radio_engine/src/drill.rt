@@ -6,20 +6,20 @@ ghost use Rattle.file_commands.specs.Effects.{effect_of};
 ghost use Rattle.file_commands.specs.Reports.{Reports, status_in};
 ghost use Rattle.file_commands.specs.Unopened.{Lacks};
 ghost use Rattle.receiver_rack.specs.Racks.{IsRack};
-ghost use Rattle.station_config.specs.Station.{one_of_each};
+ghost use Rattle.station_values.specs.Station.{one_of_each};
 ghost use Rattle.crew_work.specs.Served.{AreBlank};
 ghost use Rattle.station_gear.specs.Opens.{IsWhole};
 
 use drill_day::make_logs;
-use feed_link::{Outside, Sink};
 use file_commands::{Ending, Known, Outcome, finish};
 use memory_links::SureSource;
+use outside_traits::{Outside, Sink};
 use radio_receiver::{BoxedReceiver, Receiver};
 use receiver_rack::fit_radios;
-use station_config::Station;
-use station_crew::{Budget, Ended, Kit, Orders, serve_station};
+use station_crew::{Budget, Ended, Equipment, Orders, serve_station};
 use station_gear::Gear;
 use station_report::{Done, finish_drilled};
+use station_values::Station;
 use std::alloc::{AllocError, Global};
 use std::sync::Wait;
 use std::thread::Threads;
@@ -47,18 +47,18 @@ fn day_gear<R: Threads + Sync, T: Drop>(
 }
 
 // The receivers of the rack, and the logs of a day.
-fn day_kit<R: Threads + Sync, T: Drop>(
+fn day_equipment<R: Threads + Sync, T: Drop>(
     rt: &R,
     alloc: Global,
     station: &Station,
     seed: u32,
     rack: Vec<BoxedReceiver>,
-) -> Result<Kit<BoxedReceiver, SureSource, T>, AllocError>
+) -> Result<Equipment<BoxedReceiver, SureSource, T>, AllocError>
     requires { IsRack stands_for rack.items }
-    ensures receivers { IfOk result (λ kit. AreBlank stands_for least_start station.now.radios kit.receivers.items) }
-    ensures gear { IfOk result (λ kit. HasDayGear seed kit.gear) }
+    ensures receivers { IfOk result (λ equipment. AreBlank stands_for least_start station.now.radios equipment.receivers.items) }
+    ensures gear { IfOk result (λ equipment. HasDayGear seed equipment.gear) }
 {
-    Ok(Kit {
+    Ok(Equipment {
         receivers: fit_radios(alloc, station, rack)?,
         gear: day_gear(rt, alloc, seed)?,
     })
@@ -70,24 +70,24 @@ fn serve_day<R: Threads + Wait + Sync, O: Outside>(
     alloc: Global,
     station: &Station,
     limit: u32,
-    kit: Kit<BoxedReceiver, SureSource, O::Net>,
+    equipment: Equipment<BoxedReceiver, SureSource, O::Net>,
     outside: &mut O,
 ) -> Result<Done, AllocError>
     requires limit { (0 < limit) × (limit ≤ 4194304) }
     requires station { station.now ≡ one_of_each }
-    requires blank { AreBlank stands_for least_start station.now.radios kit.receivers.items }
-    requires gear { IsWhole station.now kit.gear }
+    requires blank { AreBlank stands_for least_start station.now.radios equipment.receivers.items }
+    requires gear { IsWhole station.now equipment.gear }
     requires gate { O.gate_out outside.old ≡ false }
     ensures same { O.state outside.new ≡ O.state outside.old }
     ensures gate { O.gate_out outside.new ≡ O.gate_out outside.old }
-    ensures drilled { (seed : ℕ) → HasDayGear seed kit.gear → IfOk result (λ done. HasDrilled seed limit done) }
+    ensures drilled { (seed : ℕ) → HasDayGear seed equipment.gear → IfOk result (λ done. HasDrilled seed limit done) }
 {
     let orders = Orders {
         limit,
         budget: NO_HEARING,
     };
     let gate = outside.gate();
-    let ended = serve_station(rt, alloc, &gate, station, orders, kit);
+    let ended = serve_station(rt, alloc, &gate, station, orders, equipment);
     outside.give_back_gate(gate);
     match ended {
         Ok(ended) => {
@@ -123,13 +123,13 @@ pub fn run_drill<R: Threads + Wait + Sync, O: Outside, K: Sink>(
             known: Known::nothing(),
         };
     };
-    let Ok(kit) = day_kit(rt, alloc, &station, seed, rack) else {
+    let Ok(equipment) = day_equipment(rt, alloc, &station, seed, rack) else {
         return Outcome {
             report: finish(Ending::NoMemory, out),
             known: Known::nothing(),
         };
     };
-    match serve_day(rt, alloc, &station, limit, kit, outside) {
+    match serve_day(rt, alloc, &station, limit, equipment, outside) {
         Ok(done) => Outcome {
             report: finish_drilled(&station, &done, limit, out),
             known: Known::nothing(),

@@ -1,7 +1,7 @@
 //! The one call that the program makes.
 ghost use Rattle.std.specs.Prelude.{◌≡◌, ◌⊎◌, false, map};
 ghost use Rattle.command_words.specs.Commands.{Asked, AskFor};
-ghost use Rattle.feed_link.specs.Faults.{Rose};
+ghost use Rattle.outside_traits.specs.Faults.{Rose};
 ghost use Rattle.file_commands.specs.Effects.{effect_of};
 ghost use Rattle.file_commands.specs.Endings.{status_of, status_line};
 ghost use Rattle.radio_engine.specs.Run.{Runs, IsComplete, IsFaultless};
@@ -14,8 +14,8 @@ ghost use Rattle.receiver_rack.specs.Racks.{IsRack};
 use crate::drill::run_drill;
 use crate::serve::run_serve;
 use command_words::{Command, WordsFault, read_words};
-use feed_link::{Outside, Sink};
 use file_commands::{Ending, Known, Outcome, Status, finish, open_and_decode, run_migrate};
+use outside_traits::{Outside, Sink};
 use radio_receiver::Receiver;
 use replay_command::run_replay;
 use station_crew::{Budget, Orders};

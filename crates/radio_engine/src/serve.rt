@@ -9,16 +9,16 @@ ghost use Rattle.receiver_rack.specs.Racks.{IsRack};
 ghost use Rattle.crew_work.specs.Served.{AreBlank};
 ghost use Rattle.station_gear.specs.Gears.{IsEmptyFor};
 
-use feed_link::{Outside, Sink};
 use file_commands::{
     Ending, Known, Outcome, STATION_LIMIT, Subject, finish, finish_at, judge, open_station,
 };
+use outside_traits::{Outside, Sink};
 use radio_receiver::{BoxedReceiver, Receiver};
 use receiver_rack::fit_radios;
-use station_config::Station;
-use station_crew::{Ended, Kit, Orders, serve_station};
+use station_crew::{Ended, Equipment, Orders, serve_station};
 use station_gear::{Gear, Missing, give_back_gear, open_gear};
 use station_report::{Done, finish_served, leap_feed};
+use station_values::Station;
 use std::alloc::{AllocError, Global};
 use std::sync::Wait;
 use std::thread::Threads;
@@ -34,22 +34,22 @@ fn subject_of(station: &Station, missing: Missing) -> Subject
     }
 }
 
-fn make_kit<L: Drop, T: Drop>(
+fn make_equipment<L: Drop, T: Drop>(
     alloc: Global,
     station: &Station,
     rack: Vec<BoxedReceiver>,
-) -> Result<Kit<BoxedReceiver, L, T>, AllocError>
+) -> Result<Equipment<BoxedReceiver, L, T>, AllocError>
     requires { IsRack stands_for rack.items }
-    ensures receivers { IfOk result (λ kit. AreBlank stands_for least_start station.now.radios kit.receivers.items) }
-    ensures gear { IfOk result (λ kit. IsEmptyFor station.now kit.gear) }
+    ensures receivers { IfOk result (λ equipment. AreBlank stands_for least_start station.now.radios equipment.receivers.items) }
+    ensures gear { IfOk result (λ equipment. IsEmptyFor station.now equipment.gear) }
 {
-    Ok(Kit {
+    Ok(Equipment {
         receivers: fit_radios(alloc, station, rack)?,
         gear: Gear::with_room(alloc, station)?,
     })
 }
 
-// Serves a station that was read: makes its kit, opens its logs and links, has it served with the outside's gate, and gives all
+// Serves a station that was read: makes its equipment, opens its logs and links, has it served with the outside's gate, and gives all
 // back.
 fn serve<R: Threads + Wait + Sync, O: Outside>(
     rt: &R,
@@ -65,15 +65,15 @@ fn serve<R: Threads + Wait + Sync, O: Outside>(
     ensures gate { O.gate_out outside.new ≡ O.gate_out outside.old }
     ensures tried { TriesServe station.now orders (O.state outside.old) (O.state outside.new) result }
 {
-    let Ok(mut kit) = make_kit(alloc, station, rack) else {
+    let Ok(mut equipment) = make_equipment(alloc, station, rack) else {
         return Err(Ending::NoMemory);
     };
-    if let Err(missing) = open_gear(outside, station, &mut kit.gear) {
-        give_back_gear(outside, kit.gear);
+    if let Err(missing) = open_gear(outside, station, &mut equipment.gear) {
+        give_back_gear(outside, equipment.gear);
         return Err(Ending::NotOpened(subject_of(station, missing)));
     }
     let gate = outside.gate();
-    let ended = serve_station(rt, alloc, &gate, station, orders, kit);
+    let ended = serve_station(rt, alloc, &gate, station, orders, equipment);
     outside.give_back_gate(gate);
     match ended {
         Ok(ended) => {

@@ -13,9 +13,9 @@ ghost use Rattle.radio_engine.specs.Run.{IsRun};
 ghost use Rattle.file_commands.specs.Writing.{Answers};
 ghost use Rattle.file_commands.specs.declared.ending.Ending.TheVariants.{NoMemory};
 
-use feed_link::{Outside, Sink};
 use host_arguments::{arguments_of, texts_of};
 use host_links::{HostOutside, StreamSink};
+use outside_traits::{Outside, Sink};
 use radio_engine::{Outcome, end_without_memory, run_to_outcome};
 use radio_receiver::{DcfReceiver, MsfReceiver, Receiver, WwvbReceiver};
 use receiver_rack::put_in_rack;

@@ -37,10 +37,10 @@ abbrev pub is_blank : List Reduction → Bool
 is_blank [] = true
 is_blank (r ∷ more) = false
 
-abbrev pub least_behind : Option Reduction → ℕ
-least_behind None = 0
-least_behind (Some r) = r.at + 1
+abbrev pub least_beyond : Option Reduction → ℕ
+least_beyond None = 0
+least_beyond (Some r) = r.at + 1
 
 -- the least start that may come next where starts rise: above that of the last reduction, and 0 where there is none
 abbrev pub least_after : List Reduction → ℕ
-least_after reductions = least_behind (last_or None reductions)
+least_after reductions = least_beyond (last_or None reductions)

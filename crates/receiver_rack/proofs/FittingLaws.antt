@@ -3,8 +3,8 @@ use Rattle.std.proofs.Common.{◌≡◌, ℕ, ◌+◌, ◌<◌, ◌≤◌, Some,
 use Rattle.std.proofs.lemmas.List.{map-append, take_all}
 use Rattle.std.specs.List.{slice_get}
 use Rattle.radio_receiver.specs.Histories.{History, with_delay}
-use Rattle.station_config.specs.Station.{IsStation, RadioFields, StationFields, is_same_plan, plan_count}
-use Rattle.station_config.proofs.PlanLaws.{same-plan}
+use Rattle.station_values.specs.Station.{IsStation, RadioFields, StationFields, is_same_plan, plan_count}
+use Rattle.station_values.proofs.PlanLaws.{same-plan}
 use Rattle.receiver_rack.specs.Racks.{AreFour, AreOf, HasFitted, HasPicked, left_of, silent}
 use Rattle.receiver_rack.specs.declared.rack.Spare.{Spare}
 use Rattle.receiver_rack.proofs.ListLaws.{count_by-push, count_by-take, take-slice_get}

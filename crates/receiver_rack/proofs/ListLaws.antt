@@ -42,7 +42,7 @@ count_by-take p (y ∷ more) zero x e passes =
 count_by-take p (y ∷ more) (suc n) x e passes =
     let had = count_by-take p more n x e passes in
     let first = count_by-cons p y more in
-    let front : count_by p (take (suc n) (y ∷ more)) ≡ weight (p y) + count_by p (take n more) = count_by-cons p y (take n more) in
+    let prefix : count_by p (take (suc n) (y ∷ more)) ≡ weight (p y) + count_by p (take n more) = count_by-cons p y (take n more) in
     omega arith
 
 -- a place within a list has an item

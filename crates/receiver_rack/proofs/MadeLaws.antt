@@ -4,8 +4,8 @@ use Rattle.std.specs.List.{count_by}
 use Rattle.tick_units.specs.Plans.{plans}
 use Rattle.tick_units.specs.declared.marks.Plan.{Plan}
 use Rattle.radio_receiver.specs.Histories.{History, blank_of}
-use Rattle.station_config.specs.Station.{is_same_plan}
-use Rattle.station_config.proofs.PlanLaws.{once}
+use Rattle.station_values.specs.Station.{is_same_plan}
+use Rattle.station_values.proofs.PlanLaws.{once}
 use Rattle.receiver_rack.specs.Racks.{AreOf, IsRack, is_blank_of}
 use Rattle.receiver_rack.specs.Made.{HasOfEach, with_one}
 use Rattle.receiver_rack.proofs.ListLaws.{and_true, count_by-cons, count_by-push, one-more, weight}

@@ -3,7 +3,7 @@ use Rattle.std.specs.Prelude.{◌≡◌, ℕ, ◌+◌, List, if◌then◌else◌
 use Rattle.std.specs.List.{count_by}
 use Rattle.tick_units.specs.declared.marks.Plan.{Plan}
 use Rattle.radio_receiver.specs.Histories.{History}
-use Rattle.station_config.specs.Station.{is_same_plan}
+use Rattle.station_values.specs.Station.{is_same_plan}
 use Rattle.receiver_rack.specs.Racks.{AreOf, is_blank_of}
 
 -- each receiver stands for a history, and this many of each plan are blank

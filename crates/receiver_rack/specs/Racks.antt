@@ -3,7 +3,7 @@ use Rattle.std.specs.Prelude.{◌≡◌, ℕ, ◌+◌, ◌≤◌, ◌&&◌, Bool
 use Rattle.std.specs.List.{count_by, slice_get}
 use Rattle.tick_units.specs.declared.marks.Plan.{Plan}
 use Rattle.radio_receiver.specs.Histories.{History, is_blank}
-use Rattle.station_config.specs.Station.{RadioFields, is_same_plan, plan_count}
+use Rattle.station_values.specs.Station.{RadioFields, is_same_plan, plan_count}
 use Rattle.receiver_rack.specs.declared.rack.Spare.{Spare}
 
 -- each of some receivers stands for one of these histories, in order

@@ -1,12 +1,12 @@
 //! Fits receivers with the delays of a station's radios.
 ghost use Rattle.std.specs.Prelude.{◌≡◌, ◌≤◌, ◌++◌, ◌∷◌, [], ◌+◌, ◌<◌, All, IfOk, List, map, vec_len, vec_capacity};
 ghost use Rattle.radio_receiver.specs.Histories.{History, with_delay};
-ghost use Rattle.station_config.specs.Station.{RadioFields};
+ghost use Rattle.station_values.specs.Station.{RadioFields};
 ghost use Rattle.receiver_rack.specs.Racks.{AreOf, HasFitted, IsRack, left_of, silent};
 
 use crate::rack::{Spare, four_of_each, take_of};
 use radio_receiver::{BoxedReceiver, Receiver};
-use station_config::Station;
+use station_values::Station;
 use std::alloc::{AllocError, Global};
 use tick_units::Plan;
 

@@ -8,7 +8,7 @@ use Rattle.script_line.proofs.LineLaws.{one_line, short_line}
 use Rattle.script_line.specs.declared.line.ScriptLine.{ScriptLine}
 use Rattle.script_player.proofs.ReplayLaws.{lines_push, may_be_kept}
 use Rattle.script_player.specs.Replay.{Played, is_full, lines_of, played_so}
-use Rattle.station_config.specs.Station.{StationFields}
+use Rattle.station_values.specs.Station.{StationFields}
 use Rattle.tick_units.specs.Log.{lines_of as lines_of_bytes}
 use Rattle.replay_command.specs.Replaying.{replay_ending, script_of}
 use Rattle.replay_command.specs.Script.{says_line, says_played, script_line_limit}
@@ -22,7 +22,7 @@ pub says_one : (of : StationFields) (before : List ScriptLine) (text : List ℕ)
 says_one of before text x y h k = one_line text x y h.0 k.0
 
 pub says_short : (of : StationFields) (before : List ScriptLine) (text : List ℕ) (x : ScriptLine) → says_line of before text x → length text < script_line_limit (length before)
-says_short of before text x h = (let short = short_line x h.0.lawful in let same = ap length h.0.is in omega arith)
+says_short of before text x h = (let short = short_line x h.0.valid in let same = ap length h.0.is in omega arith)
 
 -- ---- the lines that were played are the lines of the file, whatever was kept
 

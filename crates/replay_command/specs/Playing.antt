@@ -4,7 +4,7 @@ use Rattle.radio_receiver.specs.Histories.{History}
 use Rattle.script_player.specs.Replay.{Played, ReplayCase, outcome}
 use Rattle.script_player.specs.KeptPlayer.{HasPlayed}
 use Rattle.script_player.specs.Texts.{outcome_text}
-use Rattle.script_player.specs.declared.outcome.NotLawful.{NotLawful}
+use Rattle.script_player.specs.declared.outcome.Invalid.{Invalid}
 use Rattle.script_player.specs.declared.player.Player.{Player}
 use Rattle.file_commands.specs.LineTaking.{IsTakenBy, LineTaker, LineTexts, LineWay, file_says, line_taker}
 use Rattle.replay_command.specs.Replaying.{script_of}
@@ -27,7 +27,7 @@ abbrev pub script_says : ReplayCase → List ℕ → List ℕ → Type 0
 script_says of = file_says (script_of of.limit of.station)
 
 -- a text was played as the next line, and gave this text; or it is no line that may stand here
-abbrev pub PlaysNext : {B : Type 0} → (B → History → Type 0) → Player B → ReplayCase → List Played → LineTexts → Result ℕ NotLawful → Type 0
+abbrev pub PlaysNext : {B : Type 0} → (B → History → Type 0) → Player B → ReplayCase → List Played → LineTexts → Result ℕ Invalid → Type 0
 PlaysNext stands player of before line (Ok count) = (played : Played) × says_played of.station before line.text played
     × HasPlayed stands player of (before ++ played ∷ []) × (take count line.given ≡ outcome_text (outcome of.station of.limit before played))
 PlaysNext stands player of before line (Err refused) = ((played : Played) → says_played of.station before line.text played → ⊥)

@@ -1,10 +1,10 @@
 -- The command `replay`: it plays the lines of a script, one after another, on a station. All of it is this project's own.
 use Rattle.std.specs.Prelude.{ℕ, ◌^◌, Bool, true, false, List}
-use Rattle.feed_link.specs.Openings.{OutsideState}
+use Rattle.outside_traits.specs.Openings.{OutsideState}
 use Rattle.file_reader.specs.declared.reader.FileEnd.TheVariants.{Whole, Fault, TooLong}
 use Rattle.script_player.specs.Replay.{Played, is_full, lines_of, page_after}
 use Rattle.script_player.specs.Texts.{replay_text}
-use Rattle.station_config.specs.Station.{StationFields}
+use Rattle.station_values.specs.Station.{StationFields}
 use Rattle.file_commands.specs.Effects.{Effect}
 use Rattle.file_commands.specs.Endings.{ending_at}
 use Rattle.file_commands.specs.LineFiles.{LineFile, RunsAgainst, HasGoodFile}

@@ -3,12 +3,12 @@ use Rattle.std.specs.Prelude.{◌≡◌, ℕ, true}
 use Rattle.line_cutter.specs.Items.{Saying}
 use Rattle.script_line.specs.Texts.{IsTextOf}
 use Rattle.script_line.specs.declared.line.ScriptLine.{ScriptLine}
-use Rattle.script_player.specs.Replay.{Played, MayBePlayed, is_lawful, lines_of}
-use Rattle.station_config.specs.Station.{StationFields}
+use Rattle.script_player.specs.Replay.{Played, MayBePlayed, is_valid, lines_of}
+use Rattle.station_values.specs.Station.{StationFields}
 
 -- a text says a line that may stand after the lines before it
 abbrev pub says_line : StationFields → Saying ScriptLine
-says_line station before text line = IsTextOf text line × (is_lawful station before line ≡ true)
+says_line station before text line = IsTextOf text line × (is_valid station before line ≡ true)
 
 -- the same of a line that was played: where the gate takes memory for the sender of a request, either outcome may be answered
 abbrev pub says_played : StationFields → Saying Played

@@ -13,16 +13,16 @@ ghost use Rattle.receiver_rack.specs.Racks.{IsRack};
 ghost use Rattle.script_player.specs.KeptPlayer.{HasPlayed, IsReady};
 ghost use Rattle.script_player.specs.Replay.{case_of};
 ghost use Rattle.station_reader.specs.Faults.{Says};
-ghost use Rattle.station_config.specs.Station.{StationFields};
+ghost use Rattle.station_values.specs.Station.{StationFields};
 
 mod replayer;
 
-use feed_link::{Failed, Outside, Sink, Source};
 use file_commands::{
     Ending, Known, Obstacle, Outcome, Report, STATION_LIMIT, Subject, ending_at, finish, finish_at,
     finish_page, judge, open_station, read_lines,
 };
 use file_reader::{FileEnd, LogEnd};
+use outside_traits::{Failed, Outside, Sink, Source};
 use radio_receiver::Receiver;
 use replayer::Replayer;
 use script_player::{BoxedReceiver, Player};

@@ -8,16 +8,16 @@ use Rattle.std.proofs.lemmas.List.{map-append, append-nil, append_assoc}
 use Rattle.std.proofs.lemmas.List.Sums.{sum_by-append, sum_by_push}
 use Rattle.std.proofs.lemmas.List.Elements.{All-nil, All-append, All-cons}
 use Rattle.clock_page.specs.Page.{IsPage, PageFields, words}
-use Rattle.feed_link.specs.Told.{NetEvent}
-use Rattle.feed_link.specs.Told.{LinkState, Adds}
-use Rattle.feed_link.proofs.ToldLaws.{Adds-none, Adds-more}
+use Rattle.outside_traits.specs.States.{NetEvent}
+use Rattle.outside_traits.specs.States.{LinkState, Adds}
+use Rattle.outside_traits.proofs.StateLaws.{Adds-none, Adds-more}
 use Rattle.kiss_gate.specs.Gates.{Gate}
 use Rattle.packet_auth.specs.Keys.{KeyFields}
 use Rattle.page_cell.specs.declared.view.View.{View}
 use Rattle.responder.specs.Desks.{Desk}
-use Rattle.responder.specs.Turns.{Turn, Request, Reading, events_of, readings_of, IsRead, IsTurn, AreTurns, GoesOn, gate_behind, passed, refused, lost, answered_of, dropped_of, torn_of, kissed_of, unkept_of, Rises, kept, came}
+use Rattle.responder.specs.Turns.{Turn, Request, Reading, events_of, readings_of, IsRead, IsTurn, AreTurns, GoesOn, gate_with, passed, refused, lost, answered_of, dropped_of, torn_of, kissed_of, unkept_of, Rises, kept, came}
 use Rattle.responder.specs.Turns.Turn.{Still, Last, Answered, Dropped, Torn, Unsent}
-use Rattle.feed_link.specs.Faults.{RoseByOne}
+use Rattle.outside_traits.specs.Faults.{RoseByOne}
 use Rattle.reply_core.specs.declared.code.Code.{Code}
 use Rattle.reply_core.specs.declared.code.Code.TheVariants.{Pass, Deny, Rate}
 use Rattle.responder.specs.declared.served.Served.{Served}
@@ -37,20 +37,20 @@ rises_le n m (r ∷ rs) p = let q = rises_le r.length m rs p.1 in let h = p.0 in
 -- turns after turns, from gate to gate
 pub turns_both : (keys : List KeyFields) (A B C : Gate) (ts us : List Turn) → AreTurns keys A ts B → AreTurns keys B us C → AreTurns keys A (ts ++ us) C
 turns_both keys A B C [] us p q = subst (λ z. AreTurns keys z us C) (sym p) q
-turns_both keys A B C (t ∷ ts) us p q = (p.0, turns_both keys (gate_behind A t) B C ts us p.1 q)
+turns_both keys A B C (t ∷ ts) us p q = (p.0, turns_both keys (gate_with A t) B C ts us p.1 q)
 
 none_or_some : (n : ℕ) → (n ≡ 0) ⊎ (0 < n)
 none_or_some zero = inl refl
 none_or_some (suc n) = inr (omega arith)
 
 pub took_none : (a : Desk) (now : LinkState) → Adds a.link.events now.events [] → Took a (record a { link = now }) []
-took_none a now e = record { keys = refl; events = e; lawful = refl; readings = sym (append-nil a.view.readings); pages = All-nil IsRead; rising = refl; torn = omega arith; greatest = omega arith; above = (λ h. absurd (omega arith)) }
+took_none a now e = record { keys = refl; events = e; valid = refl; readings = sym (append-nil a.view.readings); pages = All-nil IsRead; rising = refl; torn = omega arith; greatest = omega arith; above = (λ h. absurd (omega arith)) }
 
 pub took_one : (a b : Desk) (t : Turn) → TookOne a b [] t → Took a b (t ∷ [])
 took_one a b t o = record {
   keys = o.keys;
   events = subst (λ l. Adds a.link.events b.link.events l) (sym o.split ∙ sym (append-nil (events_of t))) o.events;
-  lawful = (o.lawful, sym o.behind);
+  valid = (o.valid, sym o.stepped);
   readings = o.readings ∙ ap (λ l. a.view.readings ++ map kept l) (sym (append-nil (readings_of t)));
   pages = subst (λ l. All IsRead l) (sym (append-nil (readings_of t))) o.pages;
   rising = subst (λ l. Rises a.view.seen l b.view.seen) (sym (append-nil (readings_of t))) o.rising;
@@ -64,7 +64,7 @@ took_both a b c ts us p q =
     record {
       keys = q.keys ∙ p.keys;
       events = subst (λ l. Adds a.link.events c.link.events l) (sym (flat_map-append events_of ts us)) (Adds-more a.link.events b.link.events c.link.events (flat_map events_of ts) (flat_map events_of us) p.events q.events);
-      lawful = turns_both a.keys a.gate b.gate c.gate ts us p.lawful (subst (λ ks. AreTurns ks b.gate us c.gate) p.keys q.lawful);
+      valid = turns_both a.keys a.gate b.gate c.gate ts us p.valid (subst (λ ks. AreTurns ks b.gate us c.gate) p.keys q.valid);
       readings = q.readings ∙ ap (λ l. l ++ map kept (flat_map readings_of us)) p.readings ∙ append_assoc a.view.readings (map kept (flat_map readings_of ts)) (map kept (flat_map readings_of us)) ∙ ap (λ l. a.view.readings ++ l) (sym (map-append kept (flat_map readings_of ts) (flat_map readings_of us)) ∙ ap (λ l. map kept l) (sym (flat_map-append readings_of ts us)));
       pages = subst (λ l. All IsRead l) (sym (flat_map-append readings_of ts us)) (All-append IsRead (flat_map readings_of ts) (flat_map readings_of us) p.pages q.pages);
       rising = subst (λ l. Rises a.view.seen l c.view.seen) (sym (flat_map-append readings_of ts us)) (rises_both a.view.seen b.view.seen c.view.seen (flat_map readings_of ts) (flat_map readings_of us) p.rising q.rising);
@@ -79,13 +79,13 @@ took_both a b c ts us p q =
 
 -- a datagram's turn, of which the hearing was past, whole
 pub with_past : (a b : Desk) (heard : LinkState) (past : List NetEvent) (t : Turn) → Adds a.link.events heard.events past → TookOne (record a { link = heard }) b past t → TookOne a b [] t
-with_past a b heard past t told o = record {
+with_past a b heard past t reported o = record {
   keys = o.keys;
   more = events_of t;
   split = refl;
-  events = subst (λ l. Adds a.link.events b.link.events l) (sym o.split) (Adds-more a.link.events heard.events b.link.events past o.more told o.events);
-  lawful = o.lawful;
-  behind = o.behind;
+  events = subst (λ l. Adds a.link.events b.link.events l) (sym o.split) (Adds-more a.link.events heard.events b.link.events past o.more reported o.events);
+  valid = o.valid;
+  stepped = o.stepped;
   readings = o.readings;
   pages = o.pages;
   rising = o.rising;
@@ -254,22 +254,22 @@ pub torn_goes : (a : Desk) (w : View) (d : Request) (s : Served) → w.watch.tor
     → Goes a (record a { view = w }) (came d ∷ []) s (counted (Torn d) s)
 torn_goes a w d s one seen same above more = record {
   turn = Torn d;
-  took = record { keys = refl; more = []; split = refl; events = Adds-none a.link.events; lawful = tt; behind = refl; readings = same ∙ sym (append-nil a.view.readings); pages = All-nil IsRead; rising = sym seen; torn = one; greatest = more; above = (λ _. above) };
+  took = record { keys = refl; more = []; split = refl; events = Adds-none a.link.events; valid = tt; stepped = refl; readings = same ∙ sym (append-nil a.view.readings); pages = All-nil IsRead; rising = sym seen; torn = one; greatest = more; above = (λ _. above) };
   goes = refl;
   counted = refl;
   faults = refl;
 }
 
 -- a datagram for which the pass read a page
-pub read_one : (a b : Desk) (t : Turn) (d : Request) (p : PageFields) (more : List NetEvent) → b.keys ≡ a.keys → events_of t ≡ came d ∷ more → readings_of t ≡ record { length = b.view.seen; page = p } ∷ [] → torn_of t ≡ 0 → IsTurn a.keys a.gate t → b.gate ≡ gate_behind a.gate t → Adds a.link.events b.link.events more
+pub read_one : (a b : Desk) (t : Turn) (d : Request) (p : PageFields) (more : List NetEvent) → b.keys ≡ a.keys → events_of t ≡ came d ∷ more → readings_of t ≡ record { length = b.view.seen; page = p } ∷ [] → torn_of t ≡ 0 → IsTurn a.keys a.gate t → b.gate ≡ gate_with a.gate t → Adds a.link.events b.link.events more
     → b.view.watch.torn ≡ a.view.watch.torn → a.view.seen ≤ b.view.seen → b.view.readings ≡ a.view.readings ++ (b.view.seen, words p) ∷ [] → IsPage p → a.view.watch.greatest ≤ b.view.watch.greatest → TookOne a b (came d ∷ []) t
-read_one a b t d p more keys split read none lawful behind told torn later readings page great = record {
+read_one a b t d p more keys split read none valid stepped reported torn later readings page great = record {
   keys = keys;
   more = more;
   split = split;
-  events = told;
-  lawful = lawful;
-  behind = behind;
+  events = reported;
+  valid = valid;
+  stepped = stepped;
   readings = readings ∙ ap (λ l. a.view.readings ++ map kept l) (sym read);
   pages = subst (λ l. All IsRead l) (sym read) (All-cons IsRead (record { length = b.view.seen; page = p }) [] page (All-nil IsRead));
   rising = subst (λ l. Rises a.view.seen l b.view.seen) (sym read) (later, refl);
@@ -280,21 +280,21 @@ read_one a b t d p more keys split read none lawful behind told torn later readi
 
 -- a datagram's turn, with its hearing
 pub whole_goes : (a b : Desk) (heard : LinkState) (past : List NetEvent) (s r : Served) → Adds a.link.events heard.events past → heard.faults ≡ a.link.faults → Goes (record a { link = heard }) b past s r → Goes a b [] s r
-whole_goes a b heard past s r told same g = record {
+whole_goes a b heard past s r reported same g = record {
   turn = g.turn;
-  took = with_past a b heard past g.turn told g.took;
+  took = with_past a b heard past g.turn reported g.took;
   goes = g.goes;
   counted = g.counted;
   faults = g.faults ∙ same;
 }
 
 pub whole_unsent : (a b : Desk) (heard : LinkState) (past : List NetEvent) (s r : Served) → Adds a.link.events heard.events past → heard.faults ≡ a.link.faults → StopsUnsent (record a { link = heard }) b past s r → Stops a b s r
-whole_unsent a b heard past s r told same g =
+whole_unsent a b heard past s r reported same g =
     let turn = Unsent g.request g.reading g.judged g.moment g.reply in
     let end = ap (λ (z : Served). z.end) g.counted in
     record {
       turns = turn ∷ [];
-      took = took_one a b turn (with_past a b heard past turn told g.took);
+      took = took_one a b turn (with_past a b heard past turn reported g.took);
       last = subst (λ e. IsLast a.link.faults b.link.faults (turn ∷ []) e) (sym end) (inr (g.request, g.reading, g.judged, g.moment, g.reply, refl), subst (λ n. RoseByOne n b.link.faults) same g.rose);
       counted = g.counted ∙ ap (λ e. record (with_judged g.judged.kept s) { end = e }) (sym end);
     }

@@ -1,7 +1,7 @@
 -- What decides a responder's answers: its keys, its gate of clients, its link and what its pass has seen. All of it is this project's
 -- own.
 use Rattle.std.specs.Prelude.{◌≡◌, ℕ, List}
-use Rattle.feed_link.specs.Told.{LinkState}
+use Rattle.outside_traits.specs.States.{LinkState}
 use Rattle.kiss_gate.specs.Gates.{Gate}
 use Rattle.packet_auth.specs.Keys.{KeyFields, keys_of}
 use Rattle.page_cell.specs.declared.view.View.{View}

@@ -1,8 +1,8 @@
 -- What a call of `serve` does, by its turns, and why it ends. All of it is this project's own.
 use Rattle.std.specs.Prelude.{◌≡◌, ℕ, ◌+◌, ◌≤◌, ◌<◌, ◌⊎◌, List, [], ◌∷◌, ◌++◌, All, length, map}
 use Rattle.std.specs.List.{flat_map, sum_by}
-use Rattle.feed_link.specs.Faults.{RoseByOne}
-use Rattle.feed_link.specs.Told.{Adds}
+use Rattle.outside_traits.specs.Faults.{RoseByOne}
+use Rattle.outside_traits.specs.States.{Adds}
 use Rattle.kiss_gate.specs.declared.judged.Judged.{Judged}
 use Rattle.responder.specs.Desks.{Desk}
 use Rattle.responder.specs.Turns.{Turn, Request, Reading, events_of, readings_of, IsRead, AreTurns, GoesOn, answered_of, dropped_of, torn_of, kissed_of, unkept_of, Rises, kept}
@@ -17,7 +17,7 @@ use Rattle.responder.specs.declared.served.End.TheVariants.{Count, LinkEnd, Link
 pub record Took (before now : Desk) (turns : List Turn) : Type 0 where
   pub keys : now.keys ≡ before.keys
   pub events : Adds before.link.events now.link.events (flat_map events_of turns)
-  pub lawful : AreTurns before.keys before.gate turns now.gate
+  pub valid : AreTurns before.keys before.gate turns now.gate
   pub readings : now.view.readings ≡ before.view.readings ++ map kept (flat_map readings_of turns)
   pub pages : All IsRead (flat_map readings_of turns)
   pub rising : Rises before.view.seen (flat_map readings_of turns) now.view.seen
@@ -34,9 +34,9 @@ IsFaulty last = (last ≡ []) ⊎ ((request : Request) × (reading : Reading) ×
 -- one. Before either of these there were fewer turns than hearings asked for, and after each of them another may come
 abbrev pub EndsBy : ℕ → ℕ → ℕ → List Turn → End → Type 0
 EndsBy budget faults faults_now turns Count = All GoesOn turns × (length turns ≡ budget) × (faults_now ≡ faults)
-EndsBy budget faults faults_now turns LinkEnd = (front : List Turn) × (turns ≡ front ++ Last ∷ []) × All GoesOn front × (length front < budget) × (faults_now ≡ faults)
+EndsBy budget faults faults_now turns LinkEnd = (prefix : List Turn) × (turns ≡ prefix ++ Last ∷ []) × All GoesOn prefix × (length prefix < budget) × (faults_now ≡ faults)
 EndsBy budget faults faults_now turns LinkFault =
-    (front : List Turn) × (last : List Turn) × (turns ≡ front ++ last) × All GoesOn front × IsFaulty last × (length front < budget) × RoseByOne faults faults_now
+    (prefix : List Turn) × (last : List Turn) × (turns ≡ prefix ++ last) × All GoesOn prefix × IsFaulty last × (length prefix < budget) × RoseByOne faults faults_now
 
 -- what a call of `serve` did
 pub record Serves (before now : Desk) (budget : ℕ) (served : Served) : Type 0 where

@@ -1,11 +1,11 @@
 -- One turn at a time: scaffolding for the proof of `serve`, which no public clause needs.
 use Rattle.std.specs.Prelude.{◌≡◌, ℕ, ◌+◌, ◌-◌, ◌^◌, ◌≤◌, ◌<◌, Bool, true, false, List, [], ◌∷◌, ◌++◌, All, length, map}
 use Rattle.std.specs.List.{sum_by}
-use Rattle.feed_link.specs.Faults.{RoseByOne}
-use Rattle.feed_link.specs.Told.{NetEvent, Adds}
+use Rattle.outside_traits.specs.Faults.{RoseByOne}
+use Rattle.outside_traits.specs.States.{NetEvent, Adds}
 use Rattle.kiss_gate.specs.declared.judged.Judged.{Judged}
 use Rattle.responder.specs.Desks.{Desk}
-use Rattle.responder.specs.Turns.{Turn, Request, Reading, events_of, readings_of, IsRead, IsTurn, GoesOn, gate_behind, answered_of, dropped_of, torn_of, kissed_of, unkept_of, Rises, kept}
+use Rattle.responder.specs.Turns.{Turn, Request, Reading, events_of, readings_of, IsRead, IsTurn, GoesOn, gate_with, answered_of, dropped_of, torn_of, kissed_of, unkept_of, Rises, kept}
 use Rattle.responder.specs.Turns.Turn.{Still, Last, Answered, Dropped, Torn, Unsent}
 use Rattle.responder.specs.Serving.{Took, IsFaulty}
 use Rattle.reply_core.specs.declared.code.Code.{Code}
@@ -24,8 +24,8 @@ pub record TookOne (before now : Desk) (past : List NetEvent) (turn : Turn) : Ty
   pub more : List NetEvent
   pub split : events_of turn ≡ past ++ more
   pub events : Adds before.link.events now.link.events more
-  pub lawful : IsTurn before.keys before.gate turn
-  pub behind : now.gate ≡ gate_behind before.gate turn
+  pub valid : IsTurn before.keys before.gate turn
+  pub stepped : now.gate ≡ gate_with before.gate turn
   pub readings : now.view.readings ≡ before.view.readings ++ map kept (readings_of turn)
   pub pages : All IsRead (readings_of turn)
   pub rising : Rises before.view.seen (readings_of turn) now.view.seen

@@ -2,9 +2,9 @@
 -- counts. A reply is that of a server to a client (RFC 5905, section 8, `fast_xmit` of appendix A, and section 7.3 on digests), or a
 -- kiss-o'-death packet (section 7.4); the turns are this project's own.
 use Rattle.std.specs.Prelude.{◌≡◌, ℕ, ◌≤◌, Bool, true, false, List, [], ◌∷◌, Ok, Err}
-use Rattle.feed_link.specs.Told.{NetEvent}
-use Rattle.feed_link.specs.Told.NetEvent.{Came, Silent, Ended, Timed, Went}
-use Rattle.feed_link.specs.declared.outside.Address.{Address}
+use Rattle.outside_traits.specs.States.{NetEvent}
+use Rattle.outside_traits.specs.States.NetEvent.{Came, Silent, Ended, Timed, Went}
+use Rattle.outside_traits.specs.declared.outside.Address.{Address}
 use Rattle.clock_page.specs.Page.{IsPage, PageFields, words}
 use Rattle.kiss_gate.specs.Clients.{after, IsJudged}
 use Rattle.kiss_gate.specs.Gates.{Gate}
@@ -76,18 +76,18 @@ IsTurn keys gate (Unsent request reading judged sent reply) =
     IsJudged gate request.from.ip request.at judged × (reply_to keys judged.code reading.page request.bytes request.at sent ≡ Ok reply)
 
 -- the gate after a turn: only a judged request changes its table
-abbrev pub gate_behind : Gate → Turn → Gate
-gate_behind gate Still = gate
-gate_behind gate Last = gate
-gate_behind gate (Answered request reading judged sent reply) = after gate request.from.ip request.at judged.kept
-gate_behind gate (Dropped request reading sent) = gate
-gate_behind gate (Torn request) = gate
-gate_behind gate (Unsent request reading judged sent reply) = after gate request.from.ip request.at judged.kept
+abbrev pub gate_with : Gate → Turn → Gate
+gate_with gate Still = gate
+gate_with gate Last = gate
+gate_with gate (Answered request reading judged sent reply) = after gate request.from.ip request.at judged.kept
+gate_with gate (Dropped request reading sent) = gate
+gate_with gate (Torn request) = gate
+gate_with gate (Unsent request reading judged sent reply) = after gate request.from.ip request.at judged.kept
 
 -- each turn in order is one at the gate that the turns before it left; at the end the gate is the other one
 abbrev pub AreTurns : List KeyFields → Gate → List Turn → Gate → Type 0
 AreTurns keys gate [] gate_now = gate ≡ gate_now
-AreTurns keys gate (turn ∷ turns) gate_now = IsTurn keys gate turn × AreTurns keys (gate_behind gate turn) turns gate_now
+AreTurns keys gate (turn ∷ turns) gate_now = IsTurn keys gate turn × AreTurns keys (gate_with gate turn) turns gate_now
 
 -- whether another turn may come after it
 abbrev pub goes_on : Turn → Bool

@@ -1,14 +1,14 @@
 //! Turn after turn: one hearing, one reading, one answer.
 ghost use Rattle.std.specs.Prelude.{◌≡◌, ◌<◌, ◌-◌, ◌^◌, ◌∷◌, []};
 ghost use Rattle.std.specs.Bool.{OnTrue, OnFalse};
-ghost use Rattle.feed_link.specs.Told.NetEvent.{Came};
+ghost use Rattle.outside_traits.specs.States.NetEvent.{Came};
 ghost use Rattle.responder.specs.Desks.{IsSame, desk_of};
 ghost use Rattle.responder.specs.Serving.{Serves};
 ghost use Rattle.responder.specs.Steps.{Goes, Stops, StopsUnsent, HasRoom};
 
 use crate::{End, Responder, Served};
-use feed_link::{Arrival, Failed, Gate, Hearing, Link};
 use kiss_gate::ClientGate;
+use outside_traits::{Arrival, Failed, Gate, Hearing, Link};
 use packet_auth::KeyRing;
 use page_cell::{PageCell, ReadPass};
 use sealed_reply::{Reply, Request};

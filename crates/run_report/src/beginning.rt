@@ -2,7 +2,7 @@
 
 use crate::station_of;
 use standard_error::{Beginning, read_arguments};
-use station_config::Station;
+use station_values::Station;
 use std::alloc::{AllocError, Global};
 use std::fs::{self, Files};
 use std::io::Eprint;

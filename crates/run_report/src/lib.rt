@@ -12,8 +12,8 @@ use standard_error::{
     SAMPLE_BYTES, TomlFault, file_of, is_leap_file, no_minute_text, read_arguments, toml_fault,
     value_of,
 };
-use station_config::Station;
 use station_reader::{StationFault, read_station};
+use station_values::Station;
 use std::alloc::{AllocError, Global};
 use std::fs::{self, Files};
 use std::io::{Eprint, Read};

@@ -119,9 +119,9 @@ small_text (byte ∷ bytes) each =
 
 pairs_parts : (count : ℕ) → are_pairs count ≡ true → (2 ≤ count) × (count ≤ 2048) × (count % 2 ≡ 0)
 pairs_parts count h =
-    let front = and_parts (leb 2 count && leb count 2048) (eqb (count % 2) 0) h in
-    let bounds = and_parts (leb 2 count) (leb count 2048) front.0 in
-    (leb-true 2 count bounds.0, leb-true count 2048 bounds.1, eqb-true (count % 2) 0 front.1)
+    let prefix = and_parts (leb 2 count && leb count 2048) (eqb (count % 2) 0) h in
+    let bounds = and_parts (leb 2 count) (leb count 2048) prefix.0 in
+    (leb-true 2 count bounds.0, leb-true count 2048 bounds.1, eqb-true (count % 2) 0 prefix.1)
 
 -- digits of a datagram are its text
 pub text_of_digits : (digits : List ℕ) → are_digits digits ≡ true → IsTextOfDatagram digits (bytes_said digits)

@@ -9,7 +9,7 @@ use Rattle.journal_entry.specs.Texts.{spaced}
 use Rattle.journal_entry.specs.Reading.{has_space}
 use Rattle.journal_entry.proofs.LengthLaws.{moment_length, spaced_more}
 use Rattle.journal_entry.proofs.SameLaws.{fields_same, number_same}
-use Rattle.tick_units.specs.Years.{end_of_told}
+use Rattle.tick_units.specs.Years.{end_of_supported}
 use Rattle.tick_units.specs.declared.marks.Reduction.{Reduction}
 use Rattle.script_line.specs.Datagrams.{IsDatagram, bytes_said, is_small_digit}
 use Rattle.script_line.specs.Texts.{IsLine, IsReduction, AreMoments, IsTextOf, text_of}
@@ -75,7 +75,7 @@ answer_same feed other at moment bytes others a b c d x y e =
 swap_same : (feed other : ℕ) → feed < 2 ^ 32 → other < 2 ^ 32 → text_of (Swap feed) ≡ text_of (Swap other) → Swap feed ≡ Swap other
 swap_same feed other a b e = (let feed_is = number_same feed other [] [] (omega arith) (omega arith) (ap (drop 4) e) in λ i. Swap (feed_is.number i))
 
-leap_same : (feed other at moment leap_at leap : ℕ) → feed < 2 ^ 32 → other < 2 ^ 32 → at < 2 ^ 50 → moment < 2 ^ 50 → leap_at < end_of_told → leap < end_of_told →
+leap_same : (feed other at moment leap_at leap : ℕ) → feed < 2 ^ 32 → other < 2 ^ 32 → at < 2 ^ 50 → moment < 2 ^ 50 → leap_at < end_of_supported → leap < end_of_supported →
     text_of (Leap feed at leap_at) ≡ text_of (Leap other moment leap) → Leap feed at leap_at ≡ Leap other moment leap
 leap_same feed other at moment leap_at leap a b c d x y e =
     let feed_is = number_same feed other (decimal at ∷ decimal leap_at ∷ []) (decimal moment ∷ decimal leap ∷ []) (omega arith) (omega arith) (ap (drop 4) e) in
@@ -127,13 +127,13 @@ lines_same (Leap feed at leap_at) (Leap other moment leap) a b e = leap_same fee
 
 -- a text is at most one line's
 pub one_line : (text : List ℕ) (line other : ScriptLine) → IsTextOf text line → IsTextOf text other → line ≡ other
-one_line text line other a b = lines_same line other a.lawful b.lawful (sym a.is ∙ b.is)
+one_line text line other a b = lines_same line other a.valid b.valid (sym a.is ∙ b.is)
 
 feed_length : (n : ℕ) → n < 2 ^ 32 → length (decimal n) ≤ 10
 feed_length n small = length-decimal-le 10 n (omega arith) (omega arith) (omega arith)
 
-second_length : (n : ℕ) → n < end_of_told → length (decimal n) ≤ 10
-second_length n told = length-decimal-le 10 n (omega arith) (omega arith) (omega arith)
+second_length : (n : ℕ) → n < end_of_supported → length (decimal n) ≤ 10
+second_length n reported = length-decimal-le 10 n (omega arith) (omega arith) (omega arith)
 
 datagram_length : (bytes : List ℕ) → IsDatagram bytes → length (encode_lower bytes) ≤ 2048
 datagram_length bytes h = (let most = h.most in omega (arith, length-encode_with lower_digits bytes))
@@ -181,11 +181,11 @@ short_line (Request n arrived sent bytes) h =
     let z = datagram_length bytes h.2 in
     omega arith
 short_line (Leap feed at leap_at) h =
-    let told = h.2 in
+    let reported = h.2 in
     let a = spaced_more (decimal feed) (decimal at ∷ decimal leap_at ∷ []) in
     let b = spaced_more (decimal at) (decimal leap_at ∷ []) in
     let c = spaced_more (decimal leap_at) [] in
     let x = feed_length feed h.0 in
     let y = moment_length at h.1 in
-    let z = second_length leap_at told in
+    let z = second_length leap_at reported in
     omega arith

@@ -10,5 +10,5 @@ pub record HasSpaced (rest : List ℕ) (fields : List (List ℕ)) : Type 0 where
 
 -- the fields that are left are those of this line, which is in range
 pub record IsOfFields (rest : List ℕ) (line : ScriptLine) : Type 0 where
-  pub lawful : IsLine line
+  pub valid : IsLine line
   pub fields : HasSpaced rest (fields_of line)

@@ -3,7 +3,7 @@
 use Rattle.std.specs.Prelude.{◌≡◌, ℕ, ◌<◌, ◌≤◌, ◌^◌, List, [], ◌∷◌, ◌++◌, codes, decimal}
 use Rattle.hex.specs.Hex.{encode_lower}
 use Rattle.journal_entry.specs.Texts.{spaced}
-use Rattle.tick_units.specs.Years.{end_of_told}
+use Rattle.tick_units.specs.Years.{end_of_supported}
 use Rattle.tick_units.specs.declared.marks.Reduction.{Reduction}
 use Rattle.script_line.specs.Datagrams.{IsDatagram}
 use Rattle.script_line.specs.declared.line.ScriptLine.{ScriptLine}
@@ -48,9 +48,9 @@ IsLine (Ask feed at) = (feed < 2 ^ 32) × (at < 2 ^ 50)
 IsLine (Answer feed at datagram) = (feed < 2 ^ 32) × (at < 2 ^ 50) × IsDatagram datagram
 IsLine (Swap feed) = feed < 2 ^ 32
 IsLine (Request connection arrived sent datagram) = (connection < 8) × AreMoments arrived sent × IsDatagram datagram
-IsLine (Leap feed at leap_at) = (feed < 2 ^ 32) × (at < 2 ^ 50) × (leap_at < end_of_told)
+IsLine (Leap feed at leap_at) = (feed < 2 ^ 32) × (at < 2 ^ 50) × (leap_at < end_of_supported)
 
 -- a text is this line's
 pub record IsTextOf (text : List ℕ) (line : ScriptLine) : Type 0 where
-  pub lawful : IsLine line
+  pub valid : IsLine line
   pub is : text ≡ text_of line

@@ -43,7 +43,7 @@ impl<'a> Datagram<'a> {
         ensures bytes { take result out.new ≡ self.now }
         ensures rest { drop result out.new ≡ drop result out.old }
         ensures length { result ≡ length self.now }
-        ensures lawful { IsDatagram self.now }
+        ensures valid { IsDatagram self.now }
     {
         let count = self.count();
         decode(self.digits, &mut out[..count]);
@@ -53,7 +53,7 @@ impl<'a> Datagram<'a> {
     // Its number of bytes.
     fn count(&self) -> usize
         ensures value { result ≡ length self.now }
-        ensures lawful { IsDatagram self.now }
+        ensures valid { IsDatagram self.now }
     {
         self.digits.len() / 2
     }

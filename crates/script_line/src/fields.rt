@@ -3,7 +3,7 @@ ghost use Rattle.std.specs.Prelude.{◌≡◌, ◌<◌, ◌≤◌, ◌^◌, ◌�
 ghost use Rattle.decimal_text.specs.Numbers.{BeginsWith};
 ghost use Rattle.hex.specs.Hex.{encode_lower};
 ghost use Rattle.journal_entry.specs.Texts.{spaced};
-ghost use Rattle.tick_units.specs.Years.{end_of_told};
+ghost use Rattle.tick_units.specs.Years.{end_of_supported};
 ghost use Rattle.script_line.specs.Datagrams.{IsDatagram};
 ghost use Rattle.script_line.specs.Reading.{HasSpaced};
 
@@ -121,9 +121,9 @@ impl<'a> Fields<'a> {
 
     // The next field as a second, counted from 1900-01-01 00:00 UTC.
     pub fn next_second(&mut self) -> Option<u64>
-        ensures second { IfSome result (λ n. (n < end_of_told)
+        ensures second { IfSome result (λ n. (n < end_of_supported)
             × ((fields : List (List ℕ)) → HasSpaced self.new fields → HasSpaced self.old (decimal n ∷ fields))) }
-        ensures every { (n : ℕ) (fields : List (List ℕ)) → n < end_of_told → HasSpaced self.old (decimal n ∷ fields) →
+        ensures every { (n : ℕ) (fields : List (List ℕ)) → n < end_of_supported → HasSpaced self.old (decimal n ∷ fields) →
             (result ≡ Some n) × HasSpaced self.new fields }
     {
         self.next_number(LAST_SECOND)

@@ -30,7 +30,7 @@ slice_set-cases (y ∷ ys) (suc i) (suc j) v x h = onward (slice_set-cases ys i 
     onward (inr (n, f)) = inr (λ e. n (omega arith), f)
 
 -- the answer that is new stands after the old ones
-pub slice_get-behind : {X : Type 0} (xs : List X) (o : Option X) → slice_get (xs ++ option_to_list o) (length xs) ≡ o
-slice_get-behind [] None = refl
-slice_get-behind [] (Some x) = refl
-slice_get-behind (y ∷ ys) o = slice_get-behind ys o
+pub slice_get-later : {X : Type 0} (xs : List X) (o : Option X) → slice_get (xs ++ option_to_list o) (length xs) ≡ o
+slice_get-later [] None = refl
+slice_get-later [] (Some x) = refl
+slice_get-later (y ∷ ys) o = slice_get-later ys o

@@ -5,7 +5,7 @@ use Rattle.std.proofs.lemmas.Option.{slice_get_within}
 use Rattle.std.specs.List.{enumerate_from, slice_get}
 use Rattle.radio_receiver.specs.Histories.{History, with_delay}
 use Rattle.poll_core.specs.Polling.{HasPolled}
-use Rattle.station_config.specs.Station.{IsStation, RadioFields, ServerFields, StationFields, is_same_plan, plan_count}
+use Rattle.station_values.specs.Station.{IsStation, RadioFields, ServerFields, StationFields, is_same_plan, plan_count}
 use Rattle.receiver_rack.specs.Racks.{AreFour, HasPicked, IsSpare, left_of}
 use Rattle.script_player.specs.KeptPlayer.{HasFitted, HasPolling, HasRadio, HasRadios, HasServer, first_radios, first_servers, with_radio}
 use Rattle.receiver_rack.specs.declared.rack.Spare.{Spare}
@@ -13,7 +13,7 @@ use Rattle.script_player.specs.declared.radio.Radio.{Radio}
 use Rattle.script_player.specs.declared.radios.Radios.{Radios}
 use Rattle.script_player.specs.declared.server.Server.{Server}
 use Rattle.receiver_rack.proofs.ListLaws.{count_by-push, count_by-take, take-slice_get}
-use Rattle.station_config.proofs.PlanLaws.{same-plan}
+use Rattle.station_values.proofs.PlanLaws.{same-plan}
 
 -- what stands at a place of a list with one item more
 slice_get-push-cases : {X : Type 0} (xs : List X) (x y : X) (j : ℕ) → slice_get (xs ++ x ∷ []) j ≡ Some y → (slice_get xs j ≡ Some y) ⊎ ((j ≡ length xs) × (y ≡ x))
@@ -30,8 +30,8 @@ slice_get-push-last : {X : Type 0} (xs : List X) (x y : X) → slice_get (xs ++ 
 slice_get-push-last [] x y e = cc
 slice_get-push-last (z ∷ more) x y e = slice_get-push-last more x y e
 
-slice_get-push-front : {X : Type 0} (xs : List X) (x y : X) (j : ℕ) → j < length xs → slice_get (xs ++ x ∷ []) j ≡ Some y → slice_get xs j ≡ Some y
-slice_get-push-front xs x y j within e = by (slice_get-push-cases xs x y j e)
+slice_get-push-prefix : {X : Type 0} (xs : List X) (x y : X) (j : ℕ) → j < length xs → slice_get (xs ++ x ∷ []) j ≡ Some y → slice_get xs j ≡ Some y
+slice_get-push-prefix xs x y j within e = by (slice_get-push-cases xs x y j e)
   where
     by : (slice_get xs j ≡ Some y) ⊎ ((j ≡ length xs) × (y ≡ x)) → slice_get xs j ≡ Some y
     by (inl f) = f
@@ -65,7 +65,7 @@ adds {B} stands old new station fields radio left receiver taken plan delay leas
     by feed r f here (inl e) =
         let within = slice_get_within old.fitted.items feed r e in
         let count = h.fitted_are.count in
-        h.fitted_are.each feed r f e (slice_get-push-front station.radios fields f feed (omega arith) here)
+        h.fitted_are.each feed r f e (slice_get-push-prefix station.radios fields f feed (omega arith) here)
     by feed r f here (inr (e, s)) =
         let at : slice_get (station.radios ++ fields ∷ []) (length station.radios) ≡ Some f = subst (λ n. slice_get (station.radios ++ fields ∷ []) n ≡ Some f) (e ∙ h.fitted_are.count) here in
         let same = slice_get-push-last station.radios fields f at in
@@ -108,7 +108,7 @@ polling-push servers station n server fields at address polled last h =
     by place s f here (inl e) =
         let within = slice_get_within servers place s e in
         let count = h.count in
-        h.each place s f e (slice_get-push-front (take n station.servers) fields f place (omega arith) here)
+        h.each place s f e (slice_get-push-prefix (take n station.servers) fields f place (omega arith) here)
     by place s f here (inr (e, same)) =
         let there : slice_get (take n station.servers ++ fields ∷ []) (length (take n station.servers)) ≡ Some f = subst (λ k. slice_get (take n station.servers ++ fields ∷ []) k ≡ Some f) (e ∙ h.count) here in
         let own = slice_get-push-last (take n station.servers) fields f there in

@@ -17,12 +17,12 @@ use Rattle.kiss_gate.specs.Clients.{IsJudged, after, code_of as code_for}
 use Rattle.kiss_gate.specs.declared.judged.Judged.{Judged}
 use Rattle.system_fold.specs.Settings.{SettingsFields}
 use Rattle.packet_auth.specs.Keys.{KeyFields, keys_of}
-use Rattle.station_config.specs.Station.{StationFields, settings_of}
+use Rattle.station_values.specs.Station.{StationFields, settings_of}
 use Rattle.script_line.specs.declared.line.ScriptLine.{ScriptLine}
 use Rattle.script_line.specs.declared.line.ScriptLine.TheVariants.{Pulse, Ask, Answer, Swap, Request, Leap}
 use Rattle.script_player.specs.Keeping.{JournalFields}
-use Rattle.script_player.specs.Replay.{MayKeepSender, Played, ReplayCase, due, due_to, gate_after, gate_behind, gate_behind_datagram, is_lawful, is_leap_feed, lines_of, may_hear, may_poll, may_swap, may_tell, outcome_of_due, outcome_of_request, page_after, played_so, radio_of, sender_of, server_of}
-use Rattle.script_player.specs.KeptPlayer.{HasAnswered, HasGiven, HasHeardPulse, HasKept, HasLeap, HasPlayed, HasRadios, HasServers, HasTold}
+use Rattle.script_player.specs.Replay.{MayKeepSender, Played, ReplayCase, due, due_to, gate_after, gate_with, gate_with_datagram, is_valid, is_leap_feed, lines_of, may_receive, may_poll, may_swap, may_announce, outcome_of_due, outcome_of_request, page_after, played_so, radio_of, sender_of, server_of}
+use Rattle.script_player.specs.KeptPlayer.{HasAnswered, HasGiven, HasReceivedPulse, HasKept, HasLeap, HasPlayed, HasRadios, HasServers, HasReported}
 use Rattle.script_player.specs.declared.outcome.Outcome.{Outcome}
 use Rattle.script_player.specs.declared.outcome.Outcome.TheVariants.{Nothing, Asked, Replied, Dropped}
 use Rattle.script_player.specs.declared.player.Player.{Player}
@@ -36,7 +36,7 @@ use Rattle.script_player.proofs.ServerLaws.{HasServers-other}
 plays-on : {B : Type 0} (stands : B → History → Type 0) (player : Player B) (of : ReplayCase) (before : List Played) (line : ScriptLine) (was_kept : Bool) →
     HasRadios stands player.radios of.station (lines_of before ++ line ∷ []) → HasServers player.servers of.station (lines_of before ++ line ∷ []) →
     HasLeap player.leap of.station (lines_of before ++ line ∷ []) → HasKept player.journal (settings_of of.station) of.limit (due of.station (lines_of before ++ line ∷ [])) → keys_of player.keys ≡ of.station.keys →
-    player.clients ≡ gate_behind (gate_after of.station before) line was_kept → HasPlayed stands player of (before ++ played_so line was_kept ∷ [])
+    player.clients ≡ gate_with (gate_after of.station before) line was_kept → HasPlayed stands player of (before ++ played_so line was_kept ∷ [])
 plays-on stands player of before line was_kept radios servers leap journal keys clients =
     let same = sym (lines_push before (played_so line was_kept)) in
     record {
@@ -65,10 +65,10 @@ more-journal old new station limit lines line e is keeps h =
     (keeps (settings_of station) limit (due station lines) h)
 
 -- nothing was changed
-pub still : {B : Type 0} (stands : B → History → Type 0) (old new : Player B) (of : ReplayCase) (before : List Played) (lawful : Bool) →
-    new.servers ≡ old.servers → new.leap ≡ old.leap → new.journal ≡ old.journal → new.keys ≡ old.keys → new.clients ≡ old.clients → (lawful ≡ false) × HasRadios stands new.radios of.station (lines_of before) →
-    HasPlayed stands old of before → (lawful ≡ false) × HasPlayed stands new of before
-still stands old new of before lawful servers leap journal keys clients refused h = (
+pub still : {B : Type 0} (stands : B → History → Type 0) (old new : Player B) (of : ReplayCase) (before : List Played) (valid : Bool) →
+    new.servers ≡ old.servers → new.leap ≡ old.leap → new.journal ≡ old.journal → new.keys ≡ old.keys → new.clients ≡ old.clients → (valid ≡ false) × HasRadios stands new.radios of.station (lines_of before) →
+    HasPlayed stands old of before → (valid ≡ false) × HasPlayed stands new of before
+still stands old new of before valid servers leap journal keys clients refused h = (
   refused.0,
   record {
     radios = refused.1;
@@ -80,10 +80,10 @@ still stands old new of before lawful servers leap journal keys clients refused 
   },
 )
 
-pub still-servers : {B : Type 0} (stands : B → History → Type 0) (old new : Player B) (of : ReplayCase) (before : List Played) (lawful : Bool) →
-    new.radios ≡ old.radios → new.leap ≡ old.leap → new.journal ≡ old.journal → new.keys ≡ old.keys → new.clients ≡ old.clients → (lawful ≡ false) × HasServers new.servers of.station (lines_of before) →
-    HasPlayed stands old of before → (lawful ≡ false) × HasPlayed stands new of before
-still-servers stands old new of before lawful radios leap journal keys clients refused h = (
+pub still-servers : {B : Type 0} (stands : B → History → Type 0) (old new : Player B) (of : ReplayCase) (before : List Played) (valid : Bool) →
+    new.radios ≡ old.radios → new.leap ≡ old.leap → new.journal ≡ old.journal → new.keys ≡ old.keys → new.clients ≡ old.clients → (valid ≡ false) × HasServers new.servers of.station (lines_of before) →
+    HasPlayed stands old of before → (valid ≡ false) × HasPlayed stands new of before
+still-servers stands old new of before valid radios leap journal keys clients refused h = (
   refused.0,
   record {
     radios = subst (λ r. HasRadios stands r of.station (lines_of before)) (sym radios) h.radios;
@@ -95,10 +95,10 @@ still-servers stands old new of before lawful radios leap journal keys clients r
   },
 )
 
-pub still-leap : {B : Type 0} (stands : B → History → Type 0) (old new : Player B) (of : ReplayCase) (before : List Played) (lawful : Bool) →
-    new.radios ≡ old.radios → new.servers ≡ old.servers → new.journal ≡ old.journal → new.keys ≡ old.keys → new.clients ≡ old.clients → (lawful ≡ false) × HasLeap new.leap of.station (lines_of before) →
-    HasPlayed stands old of before → (lawful ≡ false) × HasPlayed stands new of before
-still-leap stands old new of before lawful radios servers journal keys clients refused h = (
+pub still-leap : {B : Type 0} (stands : B → History → Type 0) (old new : Player B) (of : ReplayCase) (before : List Played) (valid : Bool) →
+    new.radios ≡ old.radios → new.servers ≡ old.servers → new.journal ≡ old.journal → new.keys ≡ old.keys → new.clients ≡ old.clients → (valid ≡ false) × HasLeap new.leap of.station (lines_of before) →
+    HasPlayed stands old of before → (valid ≡ false) × HasPlayed stands new of before
+still-leap stands old new of before valid radios servers journal keys clients refused h = (
   refused.0,
   record {
     radios = subst (λ r. HasRadios stands r of.station (lines_of before)) (sym radios) h.radios;
@@ -111,14 +111,14 @@ still-leap stands old new of before lawful radios servers journal keys clients r
 )
 
 -- a pulse that completes a minute
-pub hears-entry : {B : Type 0} (stands : B → History → Type 0) (old new : Player B) (of : ReplayCase) (before : List Played) (feed : ℕ) (reduction : Reduction) (e : Entry) (given : Outcome) →
-    (may_hear (radio_of of.station feed) feed reduction (lines_of before) ≡ true) × HasHeardPulse stands new.radios of.station (lines_of before) (Pulse feed reduction) (Some e) →
+pub receives-entry : {B : Type 0} (stands : B → History → Type 0) (old new : Player B) (of : ReplayCase) (before : List Played) (feed : ℕ) (reduction : Reduction) (e : Entry) (given : Outcome) →
+    (may_receive (radio_of of.station feed) feed reduction (lines_of before) ≡ true) × HasReceivedPulse stands new.radios of.station (lines_of before) (Pulse feed reduction) (Some e) →
     new.servers ≡ old.servers → new.leap ≡ old.leap → new.keys ≡ old.keys → new.clients ≡ old.clients →
     ((settings : SettingsFields) (limit : ℕ) (entries : List Entry) → HasKept old.journal settings limit entries → HasKept new.journal settings limit (entries ++ e ∷ [])) →
     ((settings : SettingsFields) (limit : ℕ) (entries : List Entry) → HasKept old.journal settings limit entries → given ≡ outcome_of_due settings limit entries (Some e)) →
     HasPlayed stands old of before →
-    (is_lawful of.station (lines_of before) (Pulse feed reduction) ≡ true) × HasGiven stands new of before (Pulse feed reduction) given
-hears-entry stands old new of before feed reduction e given heard servers leap keys clients keeps gives h =
+    (is_valid of.station (lines_of before) (Pulse feed reduction) ≡ true) × HasGiven stands new of before (Pulse feed reduction) given
+receives-entry stands old new of before feed reduction e given heard servers leap keys clients keeps gives h =
     let lines = lines_of before in
     let line = Pulse feed reduction in (
       heard.0,
@@ -137,11 +137,11 @@ hears-entry stands old new of before feed reduction e given heard servers leap k
     )
 
 -- a pulse that completes none
-pub hears-none : {B : Type 0} (stands : B → History → Type 0) (old new : Player B) (of : ReplayCase) (before : List Played) (feed : ℕ) (reduction : Reduction) →
-    (may_hear (radio_of of.station feed) feed reduction (lines_of before) ≡ true) × HasHeardPulse stands new.radios of.station (lines_of before) (Pulse feed reduction) None →
+pub receives-none : {B : Type 0} (stands : B → History → Type 0) (old new : Player B) (of : ReplayCase) (before : List Played) (feed : ℕ) (reduction : Reduction) →
+    (may_receive (radio_of of.station feed) feed reduction (lines_of before) ≡ true) × HasReceivedPulse stands new.radios of.station (lines_of before) (Pulse feed reduction) None →
     new.servers ≡ old.servers → new.leap ≡ old.leap → new.journal ≡ old.journal → new.keys ≡ old.keys → new.clients ≡ old.clients → HasPlayed stands old of before →
-    (is_lawful of.station (lines_of before) (Pulse feed reduction) ≡ true) × HasGiven stands new of before (Pulse feed reduction) Nothing
-hears-none stands old new of before feed reduction heard servers leap journal keys clients h =
+    (is_valid of.station (lines_of before) (Pulse feed reduction) ≡ true) × HasGiven stands new of before (Pulse feed reduction) Nothing
+receives-none stands old new of before feed reduction heard servers leap journal keys clients h =
     let lines = lines_of before in
     let line = Pulse feed reduction in (
       heard.0,
@@ -162,7 +162,7 @@ hears-none stands old new of before feed reduction heard servers leap journal ke
 pub asks-server : {B : Type 0} (stands : B → History → Type 0) (old new : Player B) (of : ReplayCase) (before : List Played) (feed at : ℕ) (bytes : List ℕ) →
     (may_poll (server_of of.station feed) feed at (lines_of before) ≡ true) × HasServers new.servers of.station (lines_of before ++ Ask feed at ∷ []) → bytes ≡ layout (request_header at) →
     new.radios ≡ old.radios → new.leap ≡ old.leap → new.journal ≡ old.journal → new.keys ≡ old.keys → new.clients ≡ old.clients → HasPlayed stands old of before →
-    (is_lawful of.station (lines_of before) (Ask feed at) ≡ true) × HasGiven stands new of before (Ask feed at) (Asked bytes)
+    (is_valid of.station (lines_of before) (Ask feed at) ≡ true) × HasGiven stands new of before (Ask feed at) (Asked bytes)
 asks-server stands old new of before feed at bytes asked is radios leap journal keys clients h =
     let lines = lines_of before in
     let line = Ask feed at in (
@@ -187,7 +187,7 @@ pub answers-server : {B : Type 0} (stands : B → History → Type 0) (old new :
     ((settings : SettingsFields) (limit : ℕ) (entries : List Entry) → HasKept old.journal settings limit entries → HasKept new.journal settings limit (entries ++ e ∷ [])) →
     ((settings : SettingsFields) (limit : ℕ) (entries : List Entry) → HasKept old.journal settings limit entries → given ≡ outcome_of_due settings limit entries (Some e)) →
     HasPlayed stands old of before →
-    (is_lawful of.station (lines_of before) (Answer feed at datagram) ≡ true) × HasGiven stands new of before (Answer feed at datagram) given
+    (is_valid of.station (lines_of before) (Answer feed at datagram) ≡ true) × HasGiven stands new of before (Answer feed at datagram) given
 answers-server stands old new of before feed at datagram e given answered radios leap keys clients keeps gives h =
     let lines = lines_of before in
     let line = Answer feed at datagram in (
@@ -209,7 +209,7 @@ answers-server stands old new of before feed at datagram e given answered radios
 pub swaps-radio : {B : Type 0} (stands : B → History → Type 0) (old new : Player B) (of : ReplayCase) (before : List Played) (feed : ℕ) →
     (may_swap of.station (radio_of of.station feed) (lines_of before) ≡ true) × HasRadios stands new.radios of.station (lines_of before ++ Swap feed ∷ []) →
     new.servers ≡ old.servers → new.leap ≡ old.leap → new.journal ≡ old.journal → new.keys ≡ old.keys → new.clients ≡ old.clients → HasPlayed stands old of before →
-    (is_lawful of.station (lines_of before) (Swap feed) ≡ true) × HasGiven stands new of before (Swap feed) Nothing
+    (is_valid of.station (lines_of before) (Swap feed) ≡ true) × HasGiven stands new of before (Swap feed) Nothing
 swaps-radio stands old new of before feed swapped servers leap journal keys clients h =
     let lines = lines_of before in
     let line = Swap feed in (
@@ -228,35 +228,35 @@ swaps-radio stands old new of before feed swapped servers leap journal keys clie
       },
     )
 
-pub tells-leap : {B : Type 0} (stands : B → History → Type 0) (old new : Player B) (of : ReplayCase) (before : List Played) (feed at leap_at : ℕ) (e : Entry) (given : Outcome) →
-    (may_tell (is_leap_feed of.station feed) feed at (lines_of before) ≡ true) × HasTold new.leap of.station (lines_of before) (Leap feed at leap_at) e →
+pub reports-leap : {B : Type 0} (stands : B → History → Type 0) (old new : Player B) (of : ReplayCase) (before : List Played) (feed at leap_at : ℕ) (e : Entry) (given : Outcome) →
+    (may_announce (is_leap_feed of.station feed) feed at (lines_of before) ≡ true) × HasReported new.leap of.station (lines_of before) (Leap feed at leap_at) e →
     new.radios ≡ old.radios → new.servers ≡ old.servers → new.keys ≡ old.keys → new.clients ≡ old.clients →
     ((settings : SettingsFields) (limit : ℕ) (entries : List Entry) → HasKept old.journal settings limit entries → HasKept new.journal settings limit (entries ++ e ∷ [])) →
     ((settings : SettingsFields) (limit : ℕ) (entries : List Entry) → HasKept old.journal settings limit entries → given ≡ outcome_of_due settings limit entries (Some e)) →
     HasPlayed stands old of before →
-    (is_lawful of.station (lines_of before) (Leap feed at leap_at) ≡ true) × HasGiven stands new of before (Leap feed at leap_at) given
-tells-leap stands old new of before feed at leap_at e given told radios servers keys clients keeps gives h =
+    (is_valid of.station (lines_of before) (Leap feed at leap_at) ≡ true) × HasGiven stands new of before (Leap feed at leap_at) given
+reports-leap stands old new of before feed at leap_at e given reported radios servers keys clients keeps gives h =
     let lines = lines_of before in
     let line = Leap feed at leap_at in (
-      told.0,
+      reported.0,
       record {
         was_kept = true;
         may_be = refl;
         played = plays-on stands new of before line true
             (HasRadios-other stands new.radios of.station lines line (λ f. refl) (λ f. refl) (λ p. refl) (subst (λ r. HasRadios stands r of.station lines) (sym radios) h.radios))
-            (HasServers-other new.servers of.station lines line (λ f a. refl) (λ p within. no_moment of.station lines feed at leap_at p told.0 within) (subst (λ s. HasServers s of.station lines) (sym servers) h.servers))
-            told.1.played
-            (more-journal old.journal new.journal of.station of.limit lines line e told.1.due_is keeps h.journal)
+            (HasServers-other new.servers of.station lines line (λ f a. refl) (λ p within. no_moment of.station lines feed at leap_at p reported.0 within) (subst (λ s. HasServers s of.station lines) (sym servers) h.servers))
+            reported.1.played
+            (more-journal old.journal new.journal of.station of.limit lines line e reported.1.due_is keeps h.journal)
             (ap keys_of keys ∙ h.keys)
             (clients ∙ h.clients);
-        outcome_is = gives (settings_of of.station) of.limit (due of.station lines) h.journal ∙ ap (outcome_of_due (settings_of of.station) of.limit (due of.station lines)) told.1.due_is;
+        outcome_is = gives (settings_of of.station) of.limit (due of.station lines) h.journal ∙ ap (outcome_of_due (settings_of of.station) of.limit (due of.station lines)) reported.1.due_is;
       },
     )
 
 -- a request changes nothing but the gate
 requests-on : {B : Type 0} (stands : B → History → Type 0) (old new : Player B) (of : ReplayCase) (before : List Played) (connection arrived sent : ℕ) (datagram : List ℕ) (was_kept : Bool) →
     new.radios ≡ old.radios → new.servers ≡ old.servers → new.leap ≡ old.leap → new.journal ≡ old.journal → new.keys ≡ old.keys →
-    new.clients ≡ gate_behind (gate_after of.station before) (Request connection arrived sent datagram) was_kept → HasPlayed stands old of before →
+    new.clients ≡ gate_with (gate_after of.station before) (Request connection arrived sent datagram) was_kept → HasPlayed stands old of before →
     HasPlayed stands new of (before ++ played_so (Request connection arrived sent datagram) was_kept ∷ [])
 requests-on stands old new of before connection arrived sent datagram was_kept radios servers leap journal keys clients h =
     let lines = lines_of before in
@@ -308,6 +308,6 @@ judges-request stands old new of before connection arrived sent datagram ip judg
       was_kept = judged.kept;
       may_be = subst (λ r. MayKeepSender r (gate_after of.station before) (sender_of connection) arrived judged.kept) (sym header.1) of_gate.kept;
       played = requests-on stands old new of before connection arrived sent datagram judged.kept radios servers leap journal keys
-          (now ∙ sym (ap (λ r. gate_behind_datagram r (gate_after of.station before) (sender_of connection) arrived judged.kept) header.1)) h;
+          (now ∙ sym (ap (λ r. gate_with_datagram r (gate_after of.station before) (sender_of connection) arrived judged.kept) header.1)) h;
       outcome_is = sym (ap (λ r. outcome_of_request r judged.kept) replied_so);
     }

@@ -11,33 +11,33 @@ use Rattle.tick_units.specs.declared.verdicts.Heard.{Heard}
 use Rattle.journal_entry.specs.declared.entry.Entry.{Entry}
 use Rattle.radio_receiver.specs.Histories.{History, answers_of, least_after, with_delay, with_reduction}
 use Rattle.radio_receiver.proofs.LastLaws.{least_push}
-use Rattle.station_config.specs.Station.{RadioFields, StationFields}
+use Rattle.station_values.specs.Station.{RadioFields, StationFields}
 use Rattle.script_line.specs.declared.line.ScriptLine.{ScriptLine}
 use Rattle.script_line.specs.declared.line.ScriptLine.TheVariants.{Pulse, Swap}
-use Rattle.script_player.specs.Replay.{due_of_radio, entry_heard, fitted, history_of, is_plan_of, is_swap_for, is_swap_of, may_hear, may_swap, pulse_in, pulses_of, radio_of}
+use Rattle.script_player.specs.Replay.{due_of_radio, entry_received, fitted, history_of, is_plan_of, is_swap_for, is_swap_of, may_receive, may_swap, pulse_in, pulses_of, radio_of}
 use Rattle.receiver_rack.specs.Racks.{HasPicked, IsSpare, left_of, one_of}
-use Rattle.script_player.specs.KeptPlayer.{HasFitted, HasHeardPulse, HasRadio, HasRadios}
+use Rattle.script_player.specs.KeptPlayer.{HasFitted, HasReceivedPulse, HasRadio, HasRadios}
 use Rattle.receiver_rack.specs.declared.rack.Spare.{Spare}
 use Rattle.script_player.specs.declared.radio.Radio.{Radio}
 use Rattle.script_player.specs.declared.radios.Radios.{Radios}
-use Rattle.station_config.proofs.PlanLaws.{same-plan}
+use Rattle.station_values.proofs.PlanLaws.{same-plan}
 use Rattle.script_player.proofs.LineLaws.{reductions-more, reductions-other, reductions-swap}
 use Rattle.receiver_rack.proofs.ListLaws.{count_by-push}
-use Rattle.script_player.proofs.ListLaws.{filter_map-none, filter_map-some, slice_get-behind, slice_set-cases}
+use Rattle.script_player.proofs.ListLaws.{filter_map-none, filter_map-some, slice_get-later, slice_set-cases}
 
 -- the history of a radio whose receiver has heard these
-with_heard : RadioFields → List Reduction → History
-with_heard fields rs = record { plan = fields.plan; delay = fields.delay; reductions = rs }
+with_reductions : RadioFields → List Reduction → History
+with_reductions fields rs = record { plan = fields.plan; delay = fields.delay; reductions = rs }
 
 -- a line that is not of a radio leaves it as it is
 pub HasRadio-other : {B : Type 0} (stands : B → History → Type 0) (radio : Radio B) (fields : RadioFields) (feed : ℕ) (lines : List ScriptLine) (line : ScriptLine) →
     pulse_in feed line ≡ None → is_swap_of feed line ≡ false → HasRadio stands radio fields feed lines → HasRadio stands radio fields feed (lines ++ line ∷ [])
-unfolding with_heard
+unfolding with_reductions
 HasRadio-other stands radio fields feed lines line none other h = record {
   plan = h.plan;
   delay = h.delay;
   least = h.least ∙ ap least_after (sym (filter_map-none (pulse_in feed) lines line none));
-  heard = subst (λ rs. stands radio.receiver (with_heard fields rs)) (sym (reductions-other feed lines line none other)) h.heard;
+  heard = subst (λ rs. stands radio.receiver (with_reductions fields rs)) (sym (reductions-other feed lines line none other)) h.heard;
 }
 
 -- a pulse more
@@ -45,12 +45,12 @@ pub HasRadio-pulse : {B : Type 0} (stands : B → History → Type 0) (old new :
     pulse_in feed line ≡ Some r → is_swap_of feed line ≡ false →
     new.plan ≡ old.plan → new.delay_us ≡ old.delay_us → new.least ≡ r.at + 1 → ((h : History) → stands old.receiver h → stands new.receiver (with_reduction h r)) →
     HasRadio stands old fields feed lines → HasRadio stands new fields feed (lines ++ line ∷ [])
-unfolding with_heard
-HasRadio-pulse stands old new fields feed lines line r some other plan delay least hears h = record {
+unfolding with_reductions
+HasRadio-pulse stands old new fields feed lines line r some other plan delay least receives h = record {
   plan = plan ∙ h.plan;
   delay = delay ∙ h.delay;
   least = least ∙ sym (least_push (pulses_of feed lines) r) ∙ ap least_after (sym (filter_map-some (pulse_in feed) lines line r some));
-  heard = subst (λ rs. stands new.receiver (with_heard fields rs)) (sym (reductions-more feed lines line r some other)) (hears (history_of fields feed lines) h.heard);
+  heard = subst (λ rs. stands new.receiver (with_reductions fields rs)) (sym (reductions-more feed lines line r some other)) (receives (history_of fields feed lines) h.heard);
 }
 
 -- another receiver
@@ -58,7 +58,7 @@ pub HasRadio-swap : {B : Type 0} (stands : B → History → Type 0) (old new : 
     pulse_in feed line ≡ None → is_swap_of feed line ≡ true →
     new.plan ≡ old.plan → new.delay_us ≡ old.delay_us → new.least ≡ old.least → stands new.receiver (record { plan = old.plan; delay = old.delay_us; reductions = [] }) →
     HasRadio stands old fields feed lines → HasRadio stands new fields feed (lines ++ line ∷ [])
-unfolding with_heard
+unfolding with_reductions
 HasRadio-swap stands old new fields feed lines line none swap plan delay least fitted h =
     let f = subst (λ p. stands new.receiver (record { plan = p; delay = old.delay_us; reductions = [] })) h.plan fitted in
     let g = subst (λ d. stands new.receiver (record { plan = fields.plan; delay = d; reductions = [] })) h.delay f in
@@ -66,7 +66,7 @@ HasRadio-swap stands old new fields feed lines line none swap plan delay least f
       plan = plan ∙ h.plan;
       delay = delay ∙ h.delay;
       least = least ∙ h.least ∙ ap least_after (sym (filter_map-none (pulse_in feed) lines line none));
-      heard = subst (λ rs. stands new.receiver (with_heard fields rs)) (sym (reductions-swap feed lines line swap)) g;
+      heard = subst (λ rs. stands new.receiver (with_reductions fields rs)) (sym (reductions-swap feed lines line swap)) g;
     }
 
 -- a line of no radio
@@ -142,27 +142,27 @@ HasRadios-other stands radios station lines line none other keeps h = record {
 }
 
 -- a pulse that comes too soon
-pub hears-not : {B : Type 0} (stands : B → History → Type 0) (radios : Radios B) (station : StationFields) (lines : List ScriptLine) (feed : ℕ) (reduction : Reduction) (radio : Radio B) →
+pub receives-not : {B : Type 0} (stands : B → History → Type 0) (radios : Radios B) (station : StationFields) (lines : List ScriptLine) (feed : ℕ) (reduction : Reduction) (radio : Radio B) →
     slice_get radios.fitted.items feed ≡ Some radio → reduction.at < radio.least → HasRadios stands radios station lines →
-    (may_hear (radio_of station feed) feed reduction lines ≡ false) × HasRadios stands radios station lines
-hears-not stands radios station lines feed reduction radio at late h =
+    (may_receive (radio_of station feed) feed reduction lines ≡ false) × HasRadios stands radios station lines
+receives-not stands radios station lines feed reduction radio at late h =
     let own = fields_at stands radios.fitted.items station lines feed radio h.fitted_are at in
     let least = own.2.least in
-    (ap (λ o. may_hear o feed reduction lines) own.1 ∙ nat_le-no (least_after (pulses_of feed lines)) reduction.at (subst (λ n. reduction.at < n) least late), h)
+    (ap (λ o. may_receive o feed reduction lines) own.1 ∙ nat_le-no (least_after (pulses_of feed lines)) reduction.at (subst (λ n. reduction.at < n) least late), h)
 
 new-is : {X : Type 0} (longer shorter : List X) (o : Option X) → longer ≡ shorter ++ option_to_list o → o ≡ slice_get longer (length shorter)
-new-is longer shorter o e = sym (ap (λ xs. slice_get xs (length shorter)) e ∙ slice_get-behind shorter o)
+new-is longer shorter o e = sym (ap (λ xs. slice_get xs (length shorter)) e ∙ slice_get-later shorter o)
 
 -- a pulse that is heard
-pub hears : {B : Type 0} (stands : B → History → Type 0) (old new : Radios B) (station : StationFields) (lines : List ScriptLine) (feed : ℕ) (reduction : Reduction) (radio after : Radio B) (heard : Option Heard) (entry : Option Entry) →
+pub receives : {B : Type 0} (stands : B → History → Type 0) (old new : Radios B) (station : StationFields) (lines : List ScriptLine) (feed : ℕ) (reduction : Reduction) (radio after : Radio B) (heard : Option Heard) (entry : Option Entry) →
     slice_get old.fitted.items feed ≡ Some radio → radio.least ≤ reduction.at →
     after.plan ≡ radio.plan → after.delay_us ≡ radio.delay_us → after.least ≡ reduction.at + 1 →
     ((h : History) → stands radio.receiver h → stands after.receiver (with_reduction h reduction)) →
     ((h : History) → stands radio.receiver h → answers_of (with_reduction h reduction) ≡ answers_of h ++ option_to_list heard) →
-    new.fitted.items ≡ slice_set old.fitted.items feed after → new.left.items ≡ old.left.items → entry ≡ entry_heard feed heard →
+    new.fitted.items ≡ slice_set old.fitted.items feed after → new.left.items ≡ old.left.items → entry ≡ entry_received feed heard →
     HasRadios stands old station lines →
-    (may_hear (radio_of station feed) feed reduction lines ≡ true) × HasHeardPulse stands new station lines (Pulse feed reduction) entry
-hears {B} stands old new station lines feed reduction radio after heard entry at timely plan delay least hear answered now left is h =
+    (may_receive (radio_of station feed) feed reduction lines ≡ true) × HasReceivedPulse stands new station lines (Pulse feed reduction) entry
+receives {B} stands old new station lines feed reduction radio after heard entry at timely plan delay least hear answered now left is h =
     let own = fields_at stands old.fitted.items station lines feed radio h.fitted_are at in
     let fields = own.0 in
     let here = own.1 in
@@ -173,14 +173,14 @@ hears {B} stands old new station lines feed reduction radio after heard entry at
     let this : (own : RadioFields) → slice_get station.radios feed ≡ Some own → HasRadio stands after own feed (lines ++ line ∷ []) =
     λ own there. HasRadio-pulse stands radio after own feed lines line reduction mine refl plan delay least hear (h.fitted_are.each feed radio own at there) in
     let set = HasFitted_set stands old.fitted.items station lines line feed after others (λ f n. refl) this h.fitted_are in (
-      ap (λ o. may_hear o feed reduction lines) here ∙ nat_le-yes (least_after (pulses_of feed lines)) reduction.at (subst (λ n. n ≤ reduction.at) had.least timely),
+      ap (λ o. may_receive o feed reduction lines) here ∙ nat_le-yes (least_after (pulses_of feed lines)) reduction.at (subst (λ n. n ≤ reduction.at) had.least timely),
       record {
         played = record {
           fitted_are = subst (λ rs. HasFitted stands rs station (lines ++ line ∷ [])) (sym now) set;
           blank = subst (All (IsSpare stands)) (sym left) h.blank;
           four = λ plan. ap (λ xs. left_of plan xs + fitted station plan (lines ++ line ∷ [])) left ∙ ap (λ n. left_of plan old.left.items + n) (fitted-same station plan lines line refl) ∙ h.four plan;
         };
-        due_is = is ∙ ap (entry_heard feed) (new-is (answers_of (with_reduction (history_of fields feed lines) reduction)) (answers_of (history_of fields feed lines)) heard (answered (history_of fields feed lines) had.heard))
+        due_is = is ∙ ap (entry_received feed) (new-is (answers_of (with_reduction (history_of fields feed lines) reduction)) (answers_of (history_of fields feed lines)) heard (answered (history_of fields feed lines) had.heard))
             ∙ sym (ap (λ o. due_of_radio o feed reduction lines) here);
       },
     )

@@ -6,10 +6,10 @@ use Rattle.kiss_gate.specs.Gates.{Gate}
 use Rattle.ntp_packet.specs.declared.header.Header.{Header}
 use Rattle.reply_core.specs.Reply.{request_of}
 use Rattle.reply_core.specs.declared.dropped.Dropped.{Dropped as WhyDropped}
-use Rattle.station_config.specs.Station.{StationFields, gate_of}
+use Rattle.station_values.specs.Station.{StationFields, gate_of}
 use Rattle.script_line.specs.declared.line.ScriptLine.{ScriptLine}
 use Rattle.script_line.specs.declared.line.ScriptLine.TheVariants.{Pulse, Ask, Answer, Swap, Request, Leap}
-use Rattle.script_player.specs.Replay.{MayBePlayed, MayKeep, MayKeepSender, Played, gate_after, gate_behind, lines_of, outcome, played_so, sender_of}
+use Rattle.script_player.specs.Replay.{MayBePlayed, MayKeep, MayKeepSender, Played, gate_after, gate_with, lines_of, outcome, played_so, sender_of}
 use Rattle.script_player.specs.Texts.{outcome_text, replay_text}
 use Rattle.script_player.proofs.LineLaws.{each_after-push}
 
@@ -18,8 +18,8 @@ pub lines_push : (before : List Played) (p : Played) → lines_of (before ++ p �
 lines_push before p = map-append (λ q. q.line) before (p ∷ [])
 
 -- the gate
-pub gate_push : (station : StationFields) (before : List Played) (p : Played) → gate_after station (before ++ p ∷ []) ≡ gate_behind (gate_after station before) p.line p.kept
-gate_push station before p = fold-append (λ gate q. gate_behind gate q.line q.kept) (gate_of station) before (p ∷ [])
+pub gate_push : (station : StationFields) (before : List Played) (p : Played) → gate_after station (before ++ p ∷ []) ≡ gate_with (gate_after station before) p.line p.kept
+gate_push station before p = fold-append (λ gate q. gate_with gate q.line q.kept) (gate_of station) before (p ∷ [])
 
 -- the text
 pub replay_push : (station : StationFields) (limit : ℕ) (before : List Played) (p : Played) →

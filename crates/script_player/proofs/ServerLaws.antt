@@ -4,13 +4,13 @@ use Rattle.std.proofs.lemmas.Bool.Decides.{nat_tests}
 use Rattle.std.proofs.lemmas.List.{length-set}
 use Rattle.std.proofs.lemmas.Option.{slice_get_cases, slice_get_past, slice_get_within}
 use Rattle.std.specs.List.{filter_map, last_or, slice_get}
-use Rattle.feed_link.specs.declared.outside.Address.{Address}
+use Rattle.outside_traits.specs.declared.outside.Address.{Address}
 use Rattle.journal_entry.specs.declared.entry.Entry.{Entry}
 use Rattle.journal_entry.specs.declared.entry.What.{What}
 use Rattle.poll_core.specs.Histories.{Event, judge}
 use Rattle.poll_core.specs.Histories.Event.{Asked, Answered}
 use Rattle.poll_core.specs.Polling.{HasPolled}
-use Rattle.station_config.specs.Station.{ServerFields, StationFields}
+use Rattle.station_values.specs.Station.{ServerFields, StationFields}
 use Rattle.script_line.specs.declared.line.ScriptLine.{ScriptLine}
 use Rattle.script_line.specs.declared.line.ScriptLine.TheVariants.{Ask, Answer}
 use Rattle.script_player.specs.Replay.{due_of_server, event_in, events_of, last_moment, may_poll, moment_in, server_of, what_answered}

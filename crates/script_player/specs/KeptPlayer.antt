@@ -9,12 +9,12 @@ use Rattle.system_fold.specs.Settings.{SettingsFields}
 use Rattle.system_fold.specs.KeptFold.{StandsForJournal}
 use Rattle.receiver_rack.specs.Racks.{IsSpare, left_of}
 use Rattle.packet_auth.specs.Keys.{keys_of}
-use Rattle.station_config.specs.Station.{RadioFields, ServerFields, StationFields, leap_feed, settings_of}
+use Rattle.station_values.specs.Station.{RadioFields, ServerFields, StationFields, leap_feed, settings_of}
 use Rattle.script_line.specs.declared.line.ScriptLine.{ScriptLine}
 use Rattle.script_player.specs.Keeping.{JournalFields}
-use Rattle.script_player.specs.Replay.{MayBePlayed, Played, ReplayCase, due, due_to, events_of, fitted, gate_after, history_of, is_lawful, last_moment, lines_of, outcome, played_so, pulses_of}
+use Rattle.script_player.specs.Replay.{MayBePlayed, Played, ReplayCase, due, due_to, events_of, fitted, gate_after, history_of, is_valid, last_moment, lines_of, outcome, played_so, pulses_of}
 use Rattle.script_player.specs.declared.leap.LeapFeed.{LeapFeed}
-use Rattle.script_player.specs.declared.outcome.NotLawful.{NotLawful}
+use Rattle.script_player.specs.declared.outcome.Invalid.{Invalid}
 use Rattle.script_player.specs.declared.outcome.Outcome.{Outcome}
 use Rattle.script_player.specs.declared.radio.Radio.{Radio}
 use Rattle.script_player.specs.declared.radios.Radios.{Radios}
@@ -23,9 +23,9 @@ use Rattle.script_player.specs.declared.servers.Servers.{Servers}
 use Rattle.script_player.specs.declared.player.Player.{Player}
 
 -- what a call answers to a line: something exactly where the line is valid; where it is not, all is as it was
-abbrev pub Gives : {A : Type 0} → Bool → (A → Type 0) → Type 0 → Result A NotLawful → Type 0
-Gives lawful Given Same (Ok x) = (lawful ≡ true) × Given x
-Gives lawful Given Same (Err refused) = (lawful ≡ false) × Same
+abbrev pub Gives : {A : Type 0} → Bool → (A → Type 0) → Type 0 → Result A Invalid → Type 0
+Gives valid Given Same (Ok x) = (valid ≡ true) × Given x
+Gives valid Given Same (Err refused) = (valid ≡ false) × Same
 
 -- a radio has the receiver that has received the pulses since its last swap
 pub record HasRadio {B : Type 0} (stands : B → History → Type 0) (radio : Radio B) (fields : RadioFields) (feed : ℕ) (lines : List ScriptLine) : Type 0 where
@@ -65,7 +65,7 @@ pub record AreReady {B : Type 0} (least_start : B → ℕ) (radios : Radios B) :
   pub left : All (λ spare. least_start spare.receiver ≡ 0) radios.left.items
 
 -- one pulse more, and the entry that was due to it
-pub record HasHeardPulse {B : Type 0} (stands : B → History → Type 0) (radios : Radios B) (station : StationFields) (lines : List ScriptLine) (pulse : ScriptLine) (entry : Option Entry) : Type 0 where
+pub record HasReceivedPulse {B : Type 0} (stands : B → History → Type 0) (radios : Radios B) (station : StationFields) (lines : List ScriptLine) (pulse : ScriptLine) (entry : Option Entry) : Type 0 where
   pub played : HasRadios stands radios station (lines ++ pulse ∷ [])
   pub due_is : entry ≡ due_to station lines pulse
 
@@ -99,9 +99,9 @@ pub record HasLeap (leap : LeapFeed) (station : StationFields) (lines : List Scr
   pub last : leap.last ≡ last_moment (leap_feed station) lines
 
 -- one leap second more, and the entry that was due to it
-pub record HasTold (leap : LeapFeed) (station : StationFields) (lines : List ScriptLine) (told : ScriptLine) (entry : Entry) : Type 0 where
-  pub played : HasLeap leap station (lines ++ told ∷ [])
-  pub due_is : Some entry ≡ due_to station lines told
+pub record HasReported (leap : LeapFeed) (station : StationFields) (lines : List ScriptLine) (reported : ScriptLine) (entry : Entry) : Type 0 where
+  pub played : HasLeap leap station (lines ++ reported ∷ [])
+  pub due_is : Some entry ≡ due_to station lines reported
 
 -- the first of the entries that were due are kept, up to the limit
 pub record HasKept (journal : JournalFields) (settings : SettingsFields) (limit : ℕ) (entries : List Entry) : Type 0 where
@@ -127,9 +127,9 @@ pub record HasGiven {B : Type 0} (stands : B → History → Type 0) (player : P
   pub outcome_is : given ≡ outcome of.station of.limit before (played_so line was_kept)
 
 -- what a player answers to a line after these lines
-abbrev pub Plays : {B : Type 0} → (B → History → Type 0) → Player B → ReplayCase → List Played → ScriptLine → Result Outcome NotLawful → Type 0
+abbrev pub Plays : {B : Type 0} → (B → History → Type 0) → Player B → ReplayCase → List Played → ScriptLine → Result Outcome Invalid → Type 0
 Plays stands player of before line result =
-    Gives (is_lawful of.station (lines_of before) line) (HasGiven stands player of before line) (HasPlayed stands player of before) result
+    Gives (is_valid of.station (lines_of before) line) (HasGiven stands player of before line) (HasPlayed stands player of before) result
 
 -- each receiver of a player can receive what its radio may receive next
 abbrev pub IsReady : {B : Type 0} → (B → ℕ) → Player B → Type 0

@@ -8,7 +8,7 @@ use Rattle.tick_units.specs.declared.marks.Plan.{Plan}
 use Rattle.tick_units.specs.declared.marks.Reduction.{Reduction}
 use Rattle.tick_units.specs.declared.sample.Sample.{Sample as TimeSample}
 use Rattle.tick_units.specs.declared.verdicts.Heard.{Heard as Answered}
-use Rattle.feed_link.specs.declared.outside.Address.{Address}
+use Rattle.outside_traits.specs.declared.outside.Address.{Address}
 use Rattle.journal_entry.specs.declared.entry.Entry.{Entry}
 use Rattle.journal_entry.specs.declared.entry.What.{What}
 use Rattle.journal_entry.specs.declared.entry.What.TheVariants.{Heard, Sample, Declined, Notice}
@@ -26,10 +26,10 @@ use Rattle.sealed_reply.specs.Replies.{reply_to}
 use Rattle.kiss_gate.specs.Clients.{MayBeKept, after, code_of as code_for}
 use Rattle.kiss_gate.specs.Gates.{Gate}
 use Rattle.clock_page.specs.Page.{PageFields}
-use Rattle.system_fold.specs.Numbered.{numbered_behind}
+use Rattle.system_fold.specs.Numbered.{numbered_next}
 use Rattle.system_fold.specs.Page.{page_of}
 use Rattle.system_fold.specs.Settings.{SettingsFields}
-use Rattle.station_config.specs.Station.{RadioFields, ServerFields, StationFields, gate_of, is_same_plan, leap_feed, plan_count, settings_of}
+use Rattle.station_values.specs.Station.{RadioFields, ServerFields, StationFields, gate_of, is_same_plan, leap_feed, plan_count, settings_of}
 use Rattle.script_line.specs.declared.line.ScriptLine.{ScriptLine}
 use Rattle.script_line.specs.declared.line.ScriptLine.TheVariants.{Pulse, Ask, Answer, Swap, Request, Leap}
 use Rattle.script_player.specs.declared.outcome.Outcome.{Outcome}
@@ -59,12 +59,12 @@ is_swap_of feed (Swap number) = number == feed
 is_swap_of feed _ = false
 
 -- the lines after a feed's last swap, or all where there is none: from the end back to it
-abbrev pub behind_swap : ℕ → List ScriptLine → List ScriptLine
-behind_swap feed lines = reverse (take_while (λ line. not (is_swap_of feed line)) (reverse lines))
+abbrev pub after_swap : ℕ → List ScriptLine → List ScriptLine
+after_swap feed lines = reverse (take_while (λ line. not (is_swap_of feed line)) (reverse lines))
 
 -- what the receiver that a feed has now has received: the pulses since its last swap
 abbrev pub reductions_of : ℕ → List ScriptLine → List Reduction
-reductions_of feed lines = pulses_of feed (behind_swap feed lines)
+reductions_of feed lines = pulses_of feed (after_swap feed lines)
 
 -- that receiver was fitted with the radio's delay
 abbrev pub history_of : RadioFields → ℕ → List ScriptLine → History
@@ -102,9 +102,9 @@ abbrev pub last_moment : ℕ → List ScriptLine → ℕ
 last_moment feed lines = unwrap_or (last_or None (filter_map (moment_in feed) lines)) 0
 
 -- a pulse begins after all earlier ones of its radio, over swaps too
-abbrev pub may_hear : Option RadioFields → ℕ → Reduction → List ScriptLine → Bool
-may_hear None feed reduction lines = false
-may_hear (Some radio) feed reduction lines = nat_le (least_after (pulses_of feed lines)) reduction.at
+abbrev pub may_receive : Option RadioFields → ℕ → Reduction → List ScriptLine → Bool
+may_receive None feed reduction lines = false
+may_receive (Some radio) feed reduction lines = nat_le (least_after (pulses_of feed lines)) reduction.at
 
 -- no moment of a server is below an earlier one
 abbrev pub may_poll : Option ServerFields → ℕ → ℕ → List ScriptLine → Bool
@@ -112,8 +112,8 @@ may_poll None feed at lines = false
 may_poll (Some server) feed at lines = nat_le (last_moment feed lines) at
 
 -- nor is one of the leap second file
-abbrev pub may_tell : Bool → ℕ → ℕ → List ScriptLine → Bool
-may_tell is_leap feed at lines = is_leap && nat_le (last_moment feed lines) at
+abbrev pub may_announce : Bool → ℕ → ℕ → List ScriptLine → Bool
+may_announce is_leap feed at lines = is_leap && nat_le (last_moment feed lines) at
 
 -- there are four receivers of each plan
 abbrev pub may_swap : StationFields → Option RadioFields → List ScriptLine → Bool
@@ -121,25 +121,25 @@ may_swap station None lines = false
 may_swap station (Some radio) lines = nat_lt (fitted station radio.plan lines) 4
 
 -- whether a line may stand after these lines
-abbrev pub is_lawful : StationFields → List ScriptLine → ScriptLine → Bool
-is_lawful station lines (Pulse feed reduction) = may_hear (radio_of station feed) feed reduction lines
-is_lawful station lines (Ask feed at) = may_poll (server_of station feed) feed at lines
-is_lawful station lines (Answer feed at datagram) = may_poll (server_of station feed) feed at lines
-is_lawful station lines (Swap feed) = may_swap station (radio_of station feed) lines
-is_lawful station lines (Request connection arrived sent datagram) = true
-is_lawful station lines (Leap feed at leap_at) = may_tell (is_leap_feed station feed) feed at lines
+abbrev pub is_valid : StationFields → List ScriptLine → ScriptLine → Bool
+is_valid station lines (Pulse feed reduction) = may_receive (radio_of station feed) feed reduction lines
+is_valid station lines (Ask feed at) = may_poll (server_of station feed) feed at lines
+is_valid station lines (Answer feed at datagram) = may_poll (server_of station feed) feed at lines
+is_valid station lines (Swap feed) = may_swap station (radio_of station feed) lines
+is_valid station lines (Request connection arrived sent datagram) = true
+is_valid station lines (Leap feed at leap_at) = may_announce (is_leap_feed station feed) feed at lines
 
 -- the answer by which a receiver's list of answers grows with a reduction, if it grows
 abbrev pub new_answer : History → Reduction → Option Answered
 new_answer h reduction = slice_get (answers_of (with_reduction h reduction)) (length (answers_of h))
 
-abbrev pub entry_heard : ℕ → Option Answered → Option Entry
-entry_heard feed None = None
-entry_heard feed (Some heard) = Some (record { feed = feed; at = heard.at; what = Heard heard.kind })
+abbrev pub entry_received : ℕ → Option Answered → Option Entry
+entry_received feed None = None
+entry_received feed (Some heard) = Some (record { feed = feed; at = heard.at; what = Heard heard.kind })
 
 abbrev pub due_of_radio : Option RadioFields → ℕ → Reduction → List ScriptLine → Option Entry
 due_of_radio None feed reduction lines = None
-due_of_radio (Some radio) feed reduction lines = entry_heard feed (new_answer (history_of radio feed lines) reduction)
+due_of_radio (Some radio) feed reduction lines = entry_received feed (new_answer (history_of radio feed lines) reduction)
 
 abbrev pub what_answered : Result TimeSample PollRefusal → What
 what_answered (Ok sample) = Sample sample
@@ -185,7 +185,7 @@ page_after station limit lines = page_of (settings_of station) (kept station lim
 -- an entry is printed where it is kept, with its number and the rate of the page after it
 abbrev pub outcome_of_due : SettingsFields → ℕ → List Entry → Option Entry → Outcome
 outcome_of_due settings limit before None = Nothing
-outcome_of_due settings limit before (Some e) = if nat_lt (length before) limit then Kept (numbered_behind settings before e) else Nothing
+outcome_of_due settings limit before (Some e) = if nat_lt (length before) limit then Kept (numbered_next settings before e) else Nothing
 
 -- a line that was played, and whether the judging of its sender was kept; that is true where there was nothing to judge
 pub record Played : Type 0 where
@@ -211,18 +211,18 @@ abbrev pub sender_of : ℕ → ℕ
 sender_of connection = 0x7f000001 + connection
 
 -- the gate after a datagram of a client; one that is dropped is not judged
-abbrev pub gate_behind_datagram : Result Header WhyDropped → Gate → (ip at : ℕ) → Bool → Gate
-gate_behind_datagram (Ok request) gate ip at was_kept = after gate ip at was_kept
-gate_behind_datagram (Err why) gate ip at was_kept = gate
+abbrev pub gate_with_datagram : Result Header WhyDropped → Gate → (ip at : ℕ) → Bool → Gate
+gate_with_datagram (Ok request) gate ip at was_kept = after gate ip at was_kept
+gate_with_datagram (Err why) gate ip at was_kept = gate
 
 -- the gate after a line: a request is judged as it arrives
-abbrev pub gate_behind : Gate → ScriptLine → Bool → Gate
-gate_behind gate (Request connection arrived sent datagram) was_kept = gate_behind_datagram (request_of datagram) gate (sender_of connection) arrived was_kept
-gate_behind gate _ was_kept = gate
+abbrev pub gate_with : Gate → ScriptLine → Bool → Gate
+gate_with gate (Request connection arrived sent datagram) was_kept = gate_with_datagram (request_of datagram) gate (sender_of connection) arrived was_kept
+gate_with gate _ was_kept = gate
 
 -- the station's gate after all these lines
 abbrev pub gate_after : StationFields → List Played → Gate
-gate_after station played = fold (λ gate p. gate_behind gate p.line p.kept) (gate_of station) played
+gate_after station played = fold (λ gate p. gate_with gate p.line p.kept) (gate_of station) played
 
 -- a judging is not kept only where the request passes, the gap is not 0 and the gate's table has no pair of its sender
 abbrev pub MayKeepSender : Result Header WhyDropped → Gate → (ip at : ℕ) → Bool → Type 0

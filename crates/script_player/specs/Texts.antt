@@ -4,7 +4,7 @@ use Rattle.hex.specs.Hex.{encode_lower}
 use Rattle.journal_entry.specs.Numbers.{numbered_text}
 use Rattle.reply_core.specs.declared.dropped.Dropped.{Dropped as WhyDropped}
 use Rattle.reply_core.specs.declared.dropped.Dropped.TheVariants.{Short, Version, Mode}
-use Rattle.station_config.specs.Station.{StationFields}
+use Rattle.station_values.specs.Station.{StationFields}
 use Rattle.script_player.specs.Replay.{Played, each_after, outcome}
 use Rattle.script_player.specs.declared.outcome.Outcome.{Outcome}
 use Rattle.script_player.specs.declared.outcome.Outcome.TheVariants.{Nothing, Kept, Asked, Replied, Dropped}

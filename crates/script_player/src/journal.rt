@@ -1,9 +1,9 @@
 //! What is kept of the journal of a station in a script.
 ghost use Rattle.std.specs.Prelude.{◌≡◌, ◌≤◌, ◌^◌, ◌++◌, ◌∷◌, [], ℕ, List, Some, length, take, nat_lt};
-ghost use Rattle.journal_entry.specs.Lawful.{IsLawful};
+ghost use Rattle.journal_entry.specs.Valid.{IsValid};
 ghost use Rattle.journal_entry.specs.declared.entry.Entry.{Entry};
 ghost use Rattle.system_fold.specs.Page.{page_of};
-ghost use Rattle.system_fold.specs.Settings.{AreLawful, SettingsFields};
+ghost use Rattle.system_fold.specs.Settings.{AreValid, SettingsFields};
 
 use crate::Outcome;
 use clock_page::Page;
@@ -36,7 +36,7 @@ impl ReplayJournal {
 
     // The empty journal.
     pub fn new(settings: &Settings, limit: u32) -> ReplayJournal
-        requires lawful { AreLawful settings.now }
+        requires valid { AreValid settings.now }
         requires most { limit ≤ 2 ^ 22 }
         ensures kept { HasKept result settings.now limit [] }
         ensures feeds { length result.fold.feeds ≡ length settings.now.sources }
@@ -51,7 +51,7 @@ impl ReplayJournal {
 
     // An entry that is due. It is dropped where the journal is full.
     pub fn take(&mut self, e: &Entry) -> Outcome
-        requires { IsLawful (length self.old.fold.feeds) e.now }
+        requires { IsValid (length self.old.fold.feeds) e.now }
         ensures kept { (settings : SettingsFields) (limit : ℕ) (entries : List Entry) →
             HasKept self.old settings limit entries →
             HasKept self.new settings limit (entries ++ e.now ∷ []) }

@@ -1,16 +1,16 @@
 //! The leap second file of the station.
 ghost use Rattle.std.specs.Prelude.{◌≡◌, ◌<◌, ◌+◌, [], List, IfOk, Some};
-ghost use Rattle.tick_units.specs.Years.{end_of_told};
-ghost use Rattle.journal_entry.specs.Lawful.{IsLawful};
-ghost use Rattle.station_config.specs.Station.{StationFields};
+ghost use Rattle.tick_units.specs.Years.{end_of_supported};
+ghost use Rattle.journal_entry.specs.Valid.{IsValid};
+ghost use Rattle.station_values.specs.Station.{StationFields};
 ghost use Rattle.script_line.specs.declared.line.ScriptLine.{ScriptLine};
 ghost use Rattle.script_line.specs.declared.line.ScriptLine.TheVariants.{Leap};
-ghost use Rattle.script_player.specs.Replay.{is_leap_feed, may_tell};
-ghost use Rattle.script_player.specs.KeptPlayer.{Gives, HasLeap, HasTold};
+ghost use Rattle.script_player.specs.Replay.{is_leap_feed, may_announce};
+ghost use Rattle.script_player.specs.KeptPlayer.{Gives, HasLeap, HasReported};
 
-use crate::NotLawful;
+use crate::Invalid;
 use journal_entry::{Entry, What};
-use station_config::Station;
+use station_values::Station;
 use tick_units::Local;
 
 // The feed of the leap second file.
@@ -38,20 +38,20 @@ impl LeapFeed {
     }
 
     // The file announces a leap second: the entry that is due to it.
-    pub fn tell(&mut self, feed: u32, at: Local, leap_at: u64) -> Result<Entry, NotLawful>
-        requires { leap_at < end_of_told }
+    pub fn announce(&mut self, feed: u32, at: Local, leap_at: u64) -> Result<Entry, Invalid>
+        requires { leap_at < end_of_supported }
         ensures number { self.new.number ≡ self.old.number }
-        ensures told { (station : StationFields) (lines : List ScriptLine) → HasLeap self.old station lines →
-            Gives (may_tell (is_leap_feed station feed) feed at lines)
-            (HasTold self.new station lines (Leap feed at leap_at)) (HasLeap self.new station lines) result }
+        ensures reported { (station : StationFields) (lines : List ScriptLine) → HasLeap self.old station lines →
+            Gives (may_announce (is_leap_feed station feed) feed at lines)
+            (HasReported self.new station lines (Leap feed at leap_at)) (HasLeap self.new station lines) result }
         ensures own { IfOk result (λ _. self.old.number ≡ Some feed) }
-        ensures lawful { IfOk result (λ e. IsLawful (feed + 1) e) }
+        ensures valid { IfOk result (λ e. IsValid (feed + 1) e) }
     {
         if self.number != Some(feed) {
-            return Err(NotLawful);
+            return Err(Invalid);
         }
         if at.get() < self.last.get() {
-            return Err(NotLawful);
+            return Err(Invalid);
         }
         self.last = at;
         Ok(Entry {

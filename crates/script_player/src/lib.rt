@@ -14,7 +14,7 @@ mod server;
 mod servers;
 mod text;
 
-pub use outcome::{NotLawful, Outcome};
+pub use outcome::{Invalid, Outcome};
 pub use player::Player;
 pub use radio_receiver::BoxedReceiver;
 pub use text::write_outcome;

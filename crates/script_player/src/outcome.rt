@@ -24,4 +24,4 @@ pub enum Outcome {
 
 /// A line that may not stand after the lines before it.
 #[derive(Clone, Copy, Debug, PartialEq, Eq)]
-pub struct NotLawful;
+pub struct Invalid;

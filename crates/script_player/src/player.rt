@@ -1,7 +1,7 @@
 //! A station in the middle of a script.
 ghost use Rattle.std.specs.Prelude.{◌≡◌, ◌<◌, ◌≤◌, ◌+◌, ◌^◌, [], List, Ok, IfOk, vec_len, length};
 ghost use Rattle.std.specs.Option.{ForSome};
-ghost use Rattle.tick_units.specs.Years.{end_of_told};
+ghost use Rattle.tick_units.specs.Years.{end_of_supported};
 ghost use Rattle.script_line.specs.Texts.{IsLine};
 ghost use Rattle.script_line.specs.declared.line.ScriptLine.{ScriptLine};
 ghost use Rattle.script_line.specs.declared.line.ScriptLine.TheVariants as lines;
@@ -12,14 +12,14 @@ use crate::journal::ReplayJournal;
 use crate::leap::LeapFeed;
 use crate::radios::Radios;
 use crate::servers::Servers;
-use crate::{BoxedReceiver, NotLawful, Outcome};
+use crate::{BoxedReceiver, Invalid, Outcome};
 use clock_page::Page;
 use kiss_gate::ClientGate;
 use packet_auth::KeyRing;
 use radio_receiver::Receiver;
 use script_line::{Datagram, ScriptLine};
 use sealed_reply::Request;
-use station_config::Station;
+use station_values::Station;
 use std::alloc::{AllocError, Global};
 use tick_units::{Local, Reduction};
 
@@ -97,7 +97,7 @@ impl Player<BoxedReceiver> {
     ///
     /// # Errors
     /// A line that may not stand there; it changes nothing.
-    pub fn play(&mut self, line: &ScriptLine<'_>) -> Result<Outcome, NotLawful>
+    pub fn play(&mut self, line: &ScriptLine<'_>) -> Result<Outcome, Invalid>
         requires line { IsLine line.now }
         requires ready { IsReady least_start self.old }
         ensures ready { IsReady least_start self.new }
@@ -115,12 +115,12 @@ impl Player<BoxedReceiver> {
                 sent,
                 datagram,
             } => Ok(self.reply(*connection, *arrived, *sent, datagram)),
-            ScriptLine::Leap { feed, at, leap_at } => self.tell(*feed, *at, *leap_at),
+            ScriptLine::Leap { feed, at, leap_at } => self.announce(*feed, *at, *leap_at),
         }
     }
 
     // A pulse for a radio.
-    fn hear(&mut self, feed: u32, reduction: Reduction) -> Result<Outcome, NotLawful>
+    fn hear(&mut self, feed: u32, reduction: Reduction) -> Result<Outcome, Invalid>
         requires { IsReady least_start self.old }
         ensures ready { IsReady least_start self.new }
         ensures plays { (of : ReplayCase) (before : List Played) → HasPlayed stands_for self.old of before →
@@ -133,7 +133,7 @@ impl Player<BoxedReceiver> {
     }
 
     // A server is asked.
-    fn ask(&mut self, feed: u32, at: Local) -> Result<Outcome, NotLawful>
+    fn ask(&mut self, feed: u32, at: Local) -> Result<Outcome, Invalid>
         requires { IsReady least_start self.old }
         ensures ready { IsReady least_start self.new }
         ensures plays { (of : ReplayCase) (before : List Played) → HasPlayed stands_for self.old of before →
@@ -144,12 +144,7 @@ impl Player<BoxedReceiver> {
     }
 
     // A datagram comes from a server.
-    fn answer(
-        &mut self,
-        feed: u32,
-        at: Local,
-        datagram: &Datagram<'_>,
-    ) -> Result<Outcome, NotLawful>
+    fn answer(&mut self, feed: u32, at: Local, datagram: &Datagram<'_>) -> Result<Outcome, Invalid>
         requires { IsReady least_start self.old }
         ensures ready { IsReady least_start self.new }
         ensures plays { (of : ReplayCase) (before : List Played) → HasPlayed stands_for self.old of before →
@@ -162,7 +157,7 @@ impl Player<BoxedReceiver> {
     }
 
     // A radio gets another receiver.
-    fn swap(&mut self, feed: u32) -> Result<Outcome, NotLawful>
+    fn swap(&mut self, feed: u32) -> Result<Outcome, Invalid>
         requires { IsReady least_start self.old }
         ensures ready { IsReady least_start self.new }
         ensures plays { (of : ReplayCase) (before : List Played) → HasPlayed stands_for self.old of before →
@@ -173,14 +168,14 @@ impl Player<BoxedReceiver> {
     }
 
     // The leap second file announces a leap second.
-    fn tell(&mut self, feed: u32, at: Local, leap_at: u64) -> Result<Outcome, NotLawful>
-        requires told { leap_at < end_of_told }
+    fn announce(&mut self, feed: u32, at: Local, leap_at: u64) -> Result<Outcome, Invalid>
+        requires reported { leap_at < end_of_supported }
         requires ready { IsReady least_start self.old }
         ensures ready { IsReady least_start self.new }
         ensures plays { (of : ReplayCase) (before : List Played) → HasPlayed stands_for self.old of before →
             Plays stands_for self.new of before (lines.Leap feed at leap_at) result }
     {
-        let entry = self.leap.tell(feed, at, leap_at)?;
+        let entry = self.leap.announce(feed, at, leap_at)?;
         Ok(self.journal.take(&entry))
     }
 

@@ -1,21 +1,21 @@
 //! The radios of the station.
 ghost use Rattle.std.specs.Prelude.{◌≡◌, ◌≤◌, ◌+◌, ◌++◌, ◌∷◌, [], List, IfOk, OnOk, IfSome, vec_len};
 ghost use Rattle.minute_pair.specs.Years.{BelievesYears};
-ghost use Rattle.journal_entry.specs.Lawful.{IsLawful};
-ghost use Rattle.station_config.specs.Station.{RadioFields, StationFields};
+ghost use Rattle.journal_entry.specs.Valid.{IsValid};
+ghost use Rattle.station_values.specs.Station.{RadioFields, StationFields};
 ghost use Rattle.script_line.specs.declared.line.ScriptLine.{ScriptLine};
 ghost use Rattle.script_line.specs.declared.line.ScriptLine.TheVariants.{Pulse, Swap};
 ghost use Rattle.script_player.specs.Replay as replay;
-ghost use Rattle.script_player.specs.Replay.{may_hear, may_swap, radio_of};
+ghost use Rattle.script_player.specs.Replay.{may_receive, may_swap, radio_of};
 ghost use Rattle.receiver_rack.specs.Racks.{IsRack, left_of};
-ghost use Rattle.script_player.specs.KeptPlayer.{AreReady, Gives, HasHeardPulse, HasRadios, with_radio};
+ghost use Rattle.script_player.specs.KeptPlayer.{AreReady, Gives, HasReceivedPulse, HasRadios, with_radio};
 
 use crate::radio::Radio;
-use crate::{BoxedReceiver, NotLawful};
+use crate::{BoxedReceiver, Invalid};
 use journal_entry::{Entry, What};
 use radio_receiver::Receiver;
 use receiver_rack::{Spare, four_of_each, take_of};
-use station_config::Station;
+use station_values::Station;
 use std::alloc::{AllocError, Global};
 use tick_units::{Heard, Plan, Reduction};
 
@@ -27,10 +27,10 @@ pub struct Radios<B: Drop> {
 }
 
 // The entry of an answer.
-fn entry_heard(feed: u32, heard: Option<Heard>) -> Option<Entry>
-    requires { IfSome heard (λ told. BelievesYears told.kind) }
-    ensures value { result ≡ replay.entry_heard feed heard }
-    ensures lawful { IfSome result (λ e. IsLawful (feed + 1) e) }
+fn entry_received(feed: u32, heard: Option<Heard>) -> Option<Entry>
+    requires { IfSome heard (λ reported. BelievesYears reported.kind) }
+    ensures value { result ≡ replay.entry_received feed heard }
+    ensures valid { IfSome result (λ e. IsValid (feed + 1) e) }
 {
     let heard = heard?;
     Some(Entry {
@@ -79,30 +79,30 @@ impl Radios<BoxedReceiver> {
     }
 
     // A pulse for a radio: the entry that is due to it.
-    pub fn hear(&mut self, feed: u32, reduction: Reduction) -> Result<Option<Entry>, NotLawful>
+    pub fn hear(&mut self, feed: u32, reduction: Reduction) -> Result<Option<Entry>, Invalid>
         requires { AreReady least_start self.old }
         ensures ready { AreReady least_start self.new }
         ensures count { vec_len self.new.fitted ≡ vec_len self.old.fitted }
         ensures heard { (station : StationFields) (lines : List ScriptLine) →
             HasRadios stands_for self.old station lines →
-            Gives (may_hear (radio_of station feed) feed reduction lines)
-            (HasHeardPulse stands_for self.new station lines (Pulse feed reduction))
+            Gives (may_receive (radio_of station feed) feed reduction lines)
+            (HasReceivedPulse stands_for self.new station lines (Pulse feed reduction))
             (HasRadios stands_for self.new station lines) result }
-        ensures lawful { IfOk result (λ entry. IfSome entry (λ e. IsLawful (vec_len self.old.fitted) e)) }
+        ensures valid { IfOk result (λ entry. IfSome entry (λ e. IsValid (vec_len self.old.fitted) e)) }
     {
         let place = feed as usize;
         if place >= self.fitted.len() {
-            return Err(NotLawful);
+            return Err(Invalid);
         }
         if reduction.at.get() < self.fitted[place].least {
-            return Err(NotLawful);
+            return Err(Invalid);
         }
         let heard = self.fitted[place].hear(reduction);
-        Ok(entry_heard(feed, heard))
+        Ok(entry_received(feed, heard))
     }
 
     // Drops a radio's receiver, and fits the next of its plan in its place.
-    pub fn swap(&mut self, feed: u32) -> Result<(), NotLawful>
+    pub fn swap(&mut self, feed: u32) -> Result<(), Invalid>
         requires { AreReady least_start self.old }
         ensures ready { AreReady least_start self.new }
         ensures count { vec_len self.new.fitted ≡ vec_len self.old.fitted }
@@ -114,11 +114,11 @@ impl Radios<BoxedReceiver> {
     {
         let place = feed as usize;
         if place >= self.fitted.len() {
-            return Err(NotLawful);
+            return Err(Invalid);
         }
         let plan = self.fitted[place].plan;
         let Some(receiver) = take_of(&mut self.left, plan) else {
-            return Err(NotLawful);
+            return Err(Invalid);
         };
         self.fitted[place].swap(receiver);
         Ok(())

@@ -6,11 +6,11 @@ ghost use Rattle.poll_core.specs.Histories.{Event, judge};
 ghost use Rattle.poll_core.specs.Histories.Event.{Asked, Answered};
 ghost use Rattle.poll_core.specs.Polling.{HasPolled, asked_at};
 ghost use Rattle.ntp_packet.specs.Layout.{layout};
-ghost use Rattle.journal_entry.specs.Lawful.{IsLawfulWhat};
-ghost use Rattle.feed_link.specs.declared.outside.Address.{Address};
+ghost use Rattle.journal_entry.specs.Valid.{IsValidWhat};
+ghost use Rattle.outside_traits.specs.declared.outside.Address.{Address};
 
-use feed_link::Address;
 use journal_entry::What;
+use outside_traits::Address;
 use poll_core::Poll;
 use tick_units::Local;
 
@@ -62,7 +62,7 @@ impl Server {
             HasPolled self.new.poll server (history ++ Answered at self.old.address datagram.now ∷ []) }
         ensures judged { (server : Address) (history : List Event) → HasPolled self.old.poll server history →
             result ≡ what_answered (judge server history at self.old.address datagram.now) }
-        ensures lawful { IsLawfulWhat result }
+        ensures valid { IsValidWhat result }
     {
         self.last = at;
         match self.poll.answer(at, self.address, datagram) {

@@ -2,18 +2,18 @@
 ghost use Rattle.std.specs.Prelude.{◌≡◌, ◌<◌, ◌+◌, ◌++◌, ◌∷◌, [], List, IfOk, OnOk, length, vec_len};
 ghost use Rattle.poll_core.specs.Formulas.{request_header};
 ghost use Rattle.ntp_packet.specs.Layout.{layout};
-ghost use Rattle.journal_entry.specs.Lawful.{IsLawful};
-ghost use Rattle.station_config.specs.Station.{StationFields};
+ghost use Rattle.journal_entry.specs.Valid.{IsValid};
+ghost use Rattle.station_values.specs.Station.{StationFields};
 ghost use Rattle.script_line.specs.declared.line.ScriptLine.{ScriptLine};
 ghost use Rattle.script_line.specs.declared.line.ScriptLine.TheVariants.{Ask, Answer};
 ghost use Rattle.script_player.specs.Replay.{may_poll, server_of};
 ghost use Rattle.script_player.specs.KeptPlayer.{Gives, HasAnswered, HasServers, IsTimely};
 
-use crate::NotLawful;
+use crate::Invalid;
 use crate::server::Server;
 use journal_entry::Entry;
 use poll_core::Poll;
-use station_config::Station;
+use station_values::Station;
 use std::alloc::{AllocError, Global};
 use tick_units::Local;
 
@@ -55,8 +55,8 @@ impl Servers {
     }
 
     // The place of a server, where this moment is not below its last one.
-    fn place_of(&self, feed: u32, at: Local) -> Result<usize, NotLawful>
-        ensures lawful { (station : StationFields) (lines : List ScriptLine) → HasServers self.now station lines →
+    fn place_of(&self, feed: u32, at: Local) -> Result<usize, Invalid>
+        ensures valid { (station : StationFields) (lines : List ScriptLine) → HasServers self.now station lines →
             Gives (may_poll (server_of station feed) feed at lines)
             (λ place. feed ≡ length station.radios + place) (Unit {0}) result }
         ensures within { IfOk result (λ place. place < vec_len self.now.servers) }
@@ -64,20 +64,20 @@ impl Servers {
         ensures timely { IfOk result (λ place. IsTimely self.now.servers.items place at) }
     {
         let Some(place) = feed.checked_sub(self.first) else {
-            return Err(NotLawful);
+            return Err(Invalid);
         };
         let place = place as usize;
         if place >= self.servers.len() {
-            return Err(NotLawful);
+            return Err(Invalid);
         }
         if at.get() < self.servers[place].last.get() {
-            return Err(NotLawful);
+            return Err(Invalid);
         }
         Ok(place)
     }
 
     // A server is asked.
-    pub fn ask(&mut self, feed: u32, at: Local) -> Result<[u8; 48], NotLawful>
+    pub fn ask(&mut self, feed: u32, at: Local) -> Result<[u8; 48], Invalid>
         ensures count { vec_len self.new.servers ≡ vec_len self.old.servers }
         ensures first { self.new.first ≡ self.old.first }
         ensures asked { (station : StationFields) (lines : List ScriptLine) → HasServers self.old station lines →
@@ -91,14 +91,14 @@ impl Servers {
     }
 
     // A datagram comes from a server: the entry that is due to it.
-    pub fn answer(&mut self, feed: u32, at: Local, datagram: &[u8]) -> Result<Entry, NotLawful>
+    pub fn answer(&mut self, feed: u32, at: Local, datagram: &[u8]) -> Result<Entry, Invalid>
         ensures count { vec_len self.new.servers ≡ vec_len self.old.servers }
         ensures first { self.new.first ≡ self.old.first }
         ensures answered { (station : StationFields) (lines : List ScriptLine) → HasServers self.old station lines →
             Gives (may_poll (server_of station feed) feed at lines)
             (HasAnswered self.new station lines (Answer feed at datagram.now))
             (HasServers self.new station lines) result }
-        ensures lawful { IfOk result (λ e. IsLawful (self.old.first + vec_len self.old.servers) e) }
+        ensures valid { IfOk result (λ e. IsValid (self.old.first + vec_len self.old.servers) e) }
     {
         let place = self.place_of(feed, at)?;
         let what = self.servers[place].answer(at, datagram);

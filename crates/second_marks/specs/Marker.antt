@@ -12,6 +12,6 @@ use Rattle.second_marks.specs.declared.marker.Marker.{Marker}
 abbrev pub HoldsBack : Code → Held → List Reduction → Type 0
 HoldsBack code held reductions = code.has_parts ≡ true → held ≡ held_of code reductions
 
-pub record HasHeard (marker : Marker) (plan : Plan) (reductions : List Reduction) : Type 0 where
+pub record HasReceived (marker : Marker) (plan : Plan) (reductions : List Reduction) : Type 0 where
   pub plan_is : marker.plan ≡ plan
   pub held : HoldsBack (code_of plan) marker.held reductions

@@ -1,7 +1,7 @@
 //! A marker: reductions in, marks out.
 ghost use Rattle.std.specs.Prelude.{◌≡◌, ◌++◌, ◌∷◌, [], List};
 ghost use Rattle.std.specs.Option.{option_to_list};
-ghost use Rattle.second_marks.specs.Marker.{HasHeard};
+ghost use Rattle.second_marks.specs.Marker.{HasReceived};
 ghost use Rattle.second_marks.specs.Marks.{marks_of};
 ghost use Rattle.tick_units.specs.declared.marks.Plan.{Plan};
 ghost use Rattle.tick_units.specs.declared.marks.Reduction.{Reduction};
@@ -19,10 +19,10 @@ pub struct Marker {
 }
 
 // Takes the next reduction, as a marker of this plan.
-fn hear_as<C: Listed>(marker: &mut Marker, reduction: Reduction) -> Option<Mark>
-    ensures heard { (plan : Plan) (reductions : List Reduction) → C.which ≡ plan → HasHeard marker.old plan reductions →
-        HasHeard marker.new plan (reductions ++ reduction ∷ []) }
-    ensures marks { (plan : Plan) (reductions : List Reduction) → C.which ≡ plan → HasHeard marker.old plan reductions →
+fn receive_as<C: Listed>(marker: &mut Marker, reduction: Reduction) -> Option<Mark>
+    ensures heard { (plan : Plan) (reductions : List Reduction) → C.which ≡ plan → HasReceived marker.old plan reductions →
+        HasReceived marker.new plan (reductions ++ reduction ∷ []) }
+    ensures marks { (plan : Plan) (reductions : List Reduction) → C.which ≡ plan → HasReceived marker.old plan reductions →
         marks_of plan (reductions ++ reduction ∷ []) ≡ marks_of plan reductions ++ option_to_list result }
     ensures plan { marker.new.plan ≡ marker.old.plan }
 {
@@ -32,7 +32,7 @@ fn hear_as<C: Listed>(marker: &mut Marker, reduction: Reduction) -> Option<Mark>
 impl Marker {
     /// A marker of a plan that has received nothing.
     pub fn new(plan: Plan) -> Marker
-        ensures { HasHeard result plan [] }
+        ensures { HasReceived result plan [] }
     {
         Marker {
             plan,
@@ -42,11 +42,11 @@ impl Marker {
 
     /// Takes the next reduction, and returns the mark that it completes, if it completes one.
     pub fn hear(&mut self, reduction: Reduction) -> Option<Mark>
-        ensures heard { (plan : Plan) (reductions : List Reduction) → HasHeard self.old plan reductions →
-            HasHeard self.new plan (reductions ++ reduction ∷ []) }
-        ensures marks { (plan : Plan) (reductions : List Reduction) → HasHeard self.old plan reductions →
+        ensures heard { (plan : Plan) (reductions : List Reduction) → HasReceived self.old plan reductions →
+            HasReceived self.new plan (reductions ++ reduction ∷ []) }
+        ensures marks { (plan : Plan) (reductions : List Reduction) → HasReceived self.old plan reductions →
             marks_of plan (reductions ++ reduction ∷ []) ≡ marks_of plan reductions ++ option_to_list result }
     {
-        of_plan!(self.plan, hear_as(self, reduction))
+        of_plan!(self.plan, receive_as(self, reduction))
     }
 }

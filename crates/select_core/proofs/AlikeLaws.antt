@@ -25,8 +25,8 @@ count-map test f [] = refl
 count-map {X} test f (x ∷ xs) = by_test (test (f x)) refl (count-map test f xs)
   where
     by_test : (b : Bool) → test (f x) ≡ b → count_by test (map f xs) ≡ count_by (λ y. test (f y)) xs → count_by test (map f (x ∷ xs)) ≡ count_by (λ y. test (f y)) (x ∷ xs)
-    by_test true passed behind = count-yes test (f x) (map f xs) passed ∙ ap (λ n. 1 + n) behind ∙ sym (count-yes (λ (y : X). test (f y)) x xs passed)
-    by_test false failed behind = count-no test (f x) (map f xs) failed ∙ behind ∙ sym (count-no (λ (y : X). test (f y)) x xs failed)
+    by_test true passed following = count-yes test (f x) (map f xs) passed ∙ ap (λ n. 1 + n) following ∙ sym (count-yes (λ (y : X). test (f y)) x xs passed)
+    by_test false failed following = count-no test (f x) (map f xs) failed ∙ following ∙ sym (count-no (λ (y : X). test (f y)) x xs failed)
 
 pub count-filter : {X : Type 0} (test keeps : X → Bool) (xs : List X) → count_by test (filter keeps xs) ≡ count_by (λ x. keeps x && test x) xs
 count-filter test keeps [] = refl
@@ -37,12 +37,12 @@ count-filter {X} test keeps (x ∷ xs) = by_tests (keeps x) (test x) refl refl (
 
     by_tests : (b d : Bool) → keeps x ≡ b → test x ≡ d → count_by test (filter keeps xs) ≡ count_by (λ y. keeps y && test y) xs
         → count_by test (cond b (x ∷ filter keeps xs) (filter keeps xs)) ≡ count_by (λ y. keeps y && test y) (x ∷ xs)
-    by_tests true true kept passed behind =
-        count-yes test x (filter keeps xs) passed ∙ ap (λ n. 1 + n) behind ∙ sym (count-yes (λ (y : X). keeps y && test y) x xs (λ i. kept i && passed i))
-    by_tests true false kept passed behind =
-        count-no test x (filter keeps xs) passed ∙ behind ∙ sym (count-no (λ (y : X). keeps y && test y) x xs (λ i. kept i && passed i))
-    by_tests false true kept passed behind = behind ∙ sym (count-no (λ (y : X). keeps y && test y) x xs (λ i. kept i && passed i))
-    by_tests false false kept passed behind = behind ∙ sym (count-no (λ (y : X). keeps y && test y) x xs (λ i. kept i && passed i))
+    by_tests true true kept passed following =
+        count-yes test x (filter keeps xs) passed ∙ ap (λ n. 1 + n) following ∙ sym (count-yes (λ (y : X). keeps y && test y) x xs (λ i. kept i && passed i))
+    by_tests true false kept passed following =
+        count-no test x (filter keeps xs) passed ∙ following ∙ sym (count-no (λ (y : X). keeps y && test y) x xs (λ i. kept i && passed i))
+    by_tests false true kept passed following = following ∙ sym (count-no (λ (y : X). keeps y && test y) x xs (λ i. kept i && passed i))
+    by_tests false false kept passed following = following ∙ sym (count-no (λ (y : X). keeps y && test y) x xs (λ i. kept i && passed i))
 
 pub alike-map : {X Y : Type 0} (f : X → Y) (xs ys : List X) → AreAlike xs ys → AreAlike (map f xs) (map f ys)
 alike-map f xs ys same = λ test. count-map test f xs ∙ same (λ x. test (f x)) ∙ sym (count-map test f ys)
@@ -111,46 +111,46 @@ module _ (from : Side) where
     there : 1 ≤ count_by (λ x. is_at x y) xs
     none : count_by (λ x. is_sooner from x y) xs ≡ 0
 
-  abbrev Tells : Option ℤ → List ℤ → Type 0
-  Tells None xs = length xs ≡ 0
-  Tells (Some y) xs = IsBest y xs
+  abbrev FindsBest : Option ℤ → List ℤ → Type 0
+  FindsBest None xs = length xs ≡ 0
+  FindsBest (Some y) xs = IsBest y xs
 
-  best-of-more : (a : ℤ) (xs : List ℤ) → Tells (fold (better (is_sooner from)) (Some a) xs) (a ∷ xs)
+  best-of-more : (a : ℤ) (xs : List ℤ) → FindsBest (fold (better (is_sooner from)) (Some a) xs) (a ∷ xs)
   best-of-more a [] = record {
     there = omega (arith, count-yes (λ x. is_at x a) a [] (is_at-itself a));
     none = count-no (λ x. is_sooner from x a) a [] (sooner-never from a);
   }
   best-of-more a (x ∷ xs) = by_test (is_sooner from x a) refl (λ best. best-of-more best xs)
     where
-      past-later : (o : Option ℤ) → is_sooner from x a ≡ true → Tells o (x ∷ xs) → Tells o (a ∷ x ∷ xs)
-      past-later None is tells = absurd (omega arith)
-      past-later (Some y) is tells =
-          let behind = sooner-chain from a x y (sooner-one_way from x a is) (none-first (λ z. is_sooner from z y) x xs tells.none) in
+      past-later : (o : Option ℤ) → is_sooner from x a ≡ true → FindsBest o (x ∷ xs) → FindsBest o (a ∷ x ∷ xs)
+      past-later None is finds = absurd (omega arith)
+      past-later (Some y) is finds =
+          let following = sooner-chain from a x y (sooner-one_way from x a is) (none-first (λ z. is_sooner from z y) x xs finds.none) in
           record {
-            there = omega (arith, tells.there, count-more (λ z. is_at z y) a (x ∷ xs));
-            none = count-no (λ z. is_sooner from z y) a (x ∷ xs) behind ∙ tells.none;
+            there = omega (arith, finds.there, count-more (λ z. is_at z y) a (x ∷ xs));
+            none = count-no (λ z. is_sooner from z y) a (x ∷ xs) following ∙ finds.none;
           }
 
-      past-same : (o : Option ℤ) → is_sooner from x a ≡ false → Tells o (a ∷ xs) → Tells o (a ∷ x ∷ xs)
-      past-same None is tells = absurd (omega arith)
-      past-same (Some y) is tells =
-          let first = none-first (λ z. is_sooner from z y) a xs tells.none in
-          let behind = sooner-chain from x a y is first in
+      past-same : (o : Option ℤ) → is_sooner from x a ≡ false → FindsBest o (a ∷ xs) → FindsBest o (a ∷ x ∷ xs)
+      past-same None is finds = absurd (omega arith)
+      past-same (Some y) is finds =
+          let first = none-first (λ z. is_sooner from z y) a xs finds.none in
+          let following = sooner-chain from x a y is first in
           record {
-            there = omega (arith, tells.there, count-skip (λ z. is_at z y) a x xs);
-            none = count-no (λ z. is_sooner from z y) a (x ∷ xs) first ∙ count-no (λ z. is_sooner from z y) x xs behind ∙ sym (count-no (λ z. is_sooner from z y) a xs first) ∙ tells.none;
+            there = omega (arith, finds.there, count-skip (λ z. is_at z y) a x xs);
+            none = count-no (λ z. is_sooner from z y) a (x ∷ xs) first ∙ count-no (λ z. is_sooner from z y) x xs following ∙ sym (count-no (λ z. is_sooner from z y) a xs first) ∙ finds.none;
           }
 
-      by_test : (b : Bool) → is_sooner from x a ≡ b → ((best : ℤ) → Tells (fold (better (is_sooner from)) (Some best) xs) (best ∷ xs))
-          → Tells (fold (better (is_sooner from)) (cond b (Some x) (Some a)) xs) (a ∷ x ∷ xs)
-      by_test true is behind = past-later (fold (better (is_sooner from)) (Some x) xs) is (behind x)
-      by_test false is behind = past-same (fold (better (is_sooner from)) (Some a) xs) is (behind a)
+      by_test : (b : Bool) → is_sooner from x a ≡ b → ((best : ℤ) → FindsBest (fold (better (is_sooner from)) (Some best) xs) (best ∷ xs))
+          → FindsBest (fold (better (is_sooner from)) (cond b (Some x) (Some a)) xs) (a ∷ x ∷ xs)
+      by_test true is following = past-later (fold (better (is_sooner from)) (Some x) xs) is (following x)
+      by_test false is following = past-same (fold (better (is_sooner from)) (Some a) xs) is (following a)
 
-  best-tells : (xs : List ℤ) → Tells (best (is_sooner from) xs) xs
-  best-tells [] = refl
-  best-tells (x ∷ xs) = best-of-more x xs
+  best-finds : (xs : List ℤ) → FindsBest (best (is_sooner from) xs) xs
+  best-finds [] = refl
+  best-finds (x ∷ xs) = best-of-more x xs
 
-  same-best : (o p : Option ℤ) (xs ys : List ℤ) → AreAlike xs ys → Tells o xs → Tells p ys → o ≡ p
+  same-best : (o p : Option ℤ) (xs ys : List ℤ) → AreAlike xs ys → FindsBest o xs → FindsBest p ys → o ≡ p
   same-best None None xs ys same first second = refl
   same-best None (Some y) xs ys same first second = absurd (omega (arith, second.there, same (λ x. is_at x y), count_by-le-length (λ x. is_at x y) xs))
   same-best (Some y) None xs ys same first second = absurd (omega (arith, first.there, same (λ x. is_at x y), count_by-le-length (λ x. is_at x y) ys))
@@ -164,11 +164,11 @@ module _ (from : Side) where
           by_test true is = absurd (omega (arith, none, there, same, count-le (λ x. is_at x y) (λ x. is_sooner from x z) xs (λ x at. ap (λ (w : ℤ). is_sooner from w z) (is_at-same x y at) ∙ is)))
 
   pub best-alike : (xs ys : List ℤ) → AreAlike xs ys → best (is_sooner from) xs ≡ best (is_sooner from) ys
-  best-alike xs ys same = same-best (best (is_sooner from) xs) (best (is_sooner from) ys) xs ys same (best-tells xs) (best-tells ys)
+  best-alike xs ys same = same-best (best (is_sooner from) xs) (best (is_sooner from) ys) xs ys same (best-finds xs) (best-finds ys)
 
   -- a point that is there is the best where none is sooner
   pub best-at : (xs : List ℤ) (k : ℕ) (y : ℤ) → k < length xs → y ≡ get_or xs k y → ((j : ℕ) (d : ℤ) → j < length xs → is_sooner from (get_or xs j d) y ≡ false) → best (is_sooner from) xs ≡ Some y
-  best-at xs k y below is none = same-best (best (is_sooner from) xs) (Some y) xs xs (λ test. refl) (best-tells xs) (record {
+  best-at xs k y below is none = same-best (best (is_sooner from) xs) (Some y) xs xs (λ test. refl) (best-finds xs) (record {
     there = omega (arith, count-at (λ x. is_at x y) xs k y below is, ap (λ (b : Bool). cond {A = ℕ} b 1 0) (is_at-itself y));
     none = count-zero (λ x. is_sooner from x y) xs none;
   })
@@ -176,7 +176,7 @@ module _ (from : Side) where
   -- so it is among those that pass a test
   pub best-passing : (p : ℤ → Bool) (xs : List ℤ) (k : ℕ) (y : ℤ) → k < length xs → y ≡ get_or xs k y → p y ≡ true → ((j : ℕ) (d : ℤ) → j < length xs → p (get_or xs j d) ≡ true → is_sooner from (get_or xs j d) y ≡ false)
       → best (is_sooner from) (filter p xs) ≡ Some y
-  best-passing p xs k y below is passed none = same-best (best (is_sooner from) (filter p xs)) (Some y) (filter p xs) (filter p xs) (λ test. refl) (best-tells (filter p xs)) (record {
+  best-passing p xs k y below is passed none = same-best (best (is_sooner from) (filter p xs)) (Some y) (filter p xs) (filter p xs) (λ test. refl) (best-finds (filter p xs)) (record {
     there = omega (arith, count-filter (λ x. is_at x y) p xs, count-at (λ x. p x && is_at x y) xs k y below is, ap (λ (b : Bool). cond {A = ℕ} b 1 0) (and_from (p y) (is_at y y) passed (is_at-itself y)));
     none = count-filter (λ x. is_sooner from x y) p xs ∙ count-zero (λ x. p x && is_sooner from x y) xs (λ j d less. by_test j d less (p (get_or xs j d)) refl);
   })

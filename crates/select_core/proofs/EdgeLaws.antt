@@ -10,7 +10,7 @@ use Rattle.select_core.specs.declared.ends.Side.TheVariants.{Lower, Upper}
 use Rattle.select_core.proofs.AlikeLaws.{alike-filter, alike-reverse, best-alike, best-nowhere, best-passing}
 use Rattle.select_core.proofs.NarrowLaws.{count-no, count-yes}
 use Rattle.select_core.proofs.PointLaws.{default-free, upward-at}
-use Rattle.select_core.proofs.SoonerLaws.{sooner-from-front, sooner-never, sooner-same, sooner-to-behind}
+use Rattle.select_core.proofs.SoonerLaws.{sooner-from-prefix, sooner-never, sooner-same, sooner-to-following}
 
 pub length-way : (from : Side) (points : List ℤ) → length (on_the_way from points) ≡ length points
 length-way Lower points = refl
@@ -28,11 +28,11 @@ way-order Upper points i j d order up below =
     ∙ upward-at points (length points - 1 - j) (length points - 1 - i) d order (omega arith) (omega arith)
 
 -- counts by places
-pub count-front : {X : Type 0} (p : X → Bool) (xs : List X) (n : ℕ) → n ≤ length xs → ((k : ℕ) (d : X) → k < n → p (get_or xs k d) ≡ true) → ((k : ℕ) (d : X) → n ≤ k → k < length xs → p (get_or xs k d) ≡ false) → count_by p xs ≡ n
-count-front p [] n within passed failed = omega arith
-count-front p (x ∷ xs) zero within passed failed = count-no p x xs (failed 0 x (omega arith) (omega arith)) ∙ count-front p xs 0 (omega arith) (λ k d below. absurd (omega arith)) (λ k d past below. failed (suc k) d (omega arith) (omega arith))
-count-front p (x ∷ xs) (suc n) within passed failed =
-    let further = count-front p xs n (omega arith) (λ k d below. passed (suc k) d (omega arith)) (λ k d past below. failed (suc k) d (omega arith) (omega arith)) in
+pub count-prefix : {X : Type 0} (p : X → Bool) (xs : List X) (n : ℕ) → n ≤ length xs → ((k : ℕ) (d : X) → k < n → p (get_or xs k d) ≡ true) → ((k : ℕ) (d : X) → n ≤ k → k < length xs → p (get_or xs k d) ≡ false) → count_by p xs ≡ n
+count-prefix p [] n within passed failed = omega arith
+count-prefix p (x ∷ xs) zero within passed failed = count-no p x xs (failed 0 x (omega arith) (omega arith)) ∙ count-prefix p xs 0 (omega arith) (λ k d below. absurd (omega arith)) (λ k d past below. failed (suc k) d (omega arith) (omega arith))
+count-prefix p (x ∷ xs) (suc n) within passed failed =
+    let further = count-prefix p xs n (omega arith) (λ k d below. passed (suc k) d (omega arith)) (λ k d past below. failed (suc k) d (omega arith) (omega arith)) in
     omega (arith, count-yes p x xs (passed 0 x (omega arith)))
 
 count-least : {X : Type 0} (p : X → Bool) (xs : List X) (n : ℕ) → n ≤ length xs → ((k : ℕ) (d : X) → k < n → p (get_or xs k d) ≡ true) → n ≤ count_by p xs
@@ -97,7 +97,7 @@ module _ (from : Side) (begins ends : List ℤ) (wanted : ℕ) (order : AreUpwar
       by_next false not_later = (there, sooner-same from (get_or way (i + 1) d) (get_or way i d) (way-order from begins i (i + 1) d order (omega arith) there) not_later)
       by_next true later =
           let most = begun-most i d below (λ j e past less. subst (λ (x : ℤ). is_sooner from (get_or way i d) x ≡ true) (default-free way j d e (omega (arith, length-way from begins)))
-          (sooner-to-behind from (get_or way i d) (get_or way (i + 1) d) (get_or way j d) later (way-order from begins (i + 1) j d order past less))) in
+          (sooner-to-following from (get_or way i d) (get_or way (i + 1) d) (get_or way j d) later (way-order from begins (i + 1) j d order past less))) in
           absurd (omega (arith, enough, is, most))
 
   pub waits-next : (i over : ℕ) (at : ℤ) → i < length begins → at ≡ get_or way i at → over ≡ ended from ends at → i + 1 < over + wanted → Waits from begins ends wanted i → Waits from begins ends wanted (i + 1)
@@ -156,30 +156,30 @@ module _ (from : Side) (begins ends : List ℤ) (wanted : ℕ) (order : AreUpwar
 -- of the points this many are sooner, where those before them are and the next is not
 pub passed-is : (from : Side) (points : List ℤ) (n : ℕ) (at : ℤ) → AreUpward points → n ≤ length points
     → ((k : ℕ) (d : ℤ) → k < n → is_sooner from (get_or (on_the_way from points) k d) at ≡ true) → ((d : ℤ) → n < length points → is_sooner from (get_or (on_the_way from points) n d) at ≡ false) → n ≡ ended from points at
-passed-is from points n at order within front next =
+passed-is from points n at order within prefix next =
     sym (sym (way-alike from points (λ y. is_sooner from y at))
-    ∙ count-front (λ y. is_sooner from y at) (on_the_way from points) n (omega (arith, length-way from points)) front
+    ∙ count-prefix (λ y. is_sooner from y at) (on_the_way from points) n (omega (arith, length-way from points)) prefix
     (λ k d past below. by_test k d past (omega (arith, length-way from points)) (is_sooner from (get_or (on_the_way from points) k d) at) refl))
   where
     by_test : (k : ℕ) (d : ℤ) → n ≤ k → k < length points → (b : Bool) → is_sooner from (get_or (on_the_way from points) k d) at ≡ b → is_sooner from (get_or (on_the_way from points) k d) at ≡ false
     by_test k d past below false is = is
-    by_test k d past below true is = absurd (false≢true (sym (next d (omega arith)) ∙ sooner-from-front from (get_or (on_the_way from points) n d) (get_or (on_the_way from points) k d) at (way-order from points n k d order past below) is))
+    by_test k d past below true is = absurd (false≢true (sym (next d (omega arith)) ∙ sooner-from-prefix from (get_or (on_the_way from points) n d) (get_or (on_the_way from points) k d) at (way-order from points n k d order past below) is))
 
 -- what was passed at a point is passed at each that is come to later
 pub passed-later : (from : Side) (begins : List ℤ) (i : ℕ) (at x : ℤ) → AreUpward begins → at ≡ get_or (on_the_way from begins) i at → is_sooner from x at ≡ true
     → (j : ℕ) (e : ℤ) → i ≤ j → j < length begins → is_sooner from x (get_or (on_the_way from begins) j e) ≡ true
 passed-later from begins i at x order here passed j e up below =
-    sooner-to-behind from x at (get_or (on_the_way from begins) j e) passed
+    sooner-to-following from x at (get_or (on_the_way from begins) j e) passed
     (subst (λ (y : ℤ). is_sooner from (get_or (on_the_way from begins) j e) y ≡ false) (default-free (on_the_way from begins) i e at (omega (arith, length-way from begins)) ∙ sym here) (way-order from begins i j e order up below))
 
 -- one more that is sooner
-pub front-next : (from : Side) (points : List ℤ) (n : ℕ) (at x : ℤ) → ((k : ℕ) (d : ℤ) → k < n → is_sooner from (get_or (on_the_way from points) k d) at ≡ true) → n < length points → x ≡ get_or (on_the_way from points) n x → is_sooner from x at ≡ true
+pub prefix-next : (from : Side) (points : List ℤ) (n : ℕ) (at x : ℤ) → ((k : ℕ) (d : ℤ) → k < n → is_sooner from (get_or (on_the_way from points) k d) at ≡ true) → n < length points → x ≡ get_or (on_the_way from points) n x → is_sooner from x at ≡ true
     → (k : ℕ) (d : ℤ) → k < n + 1 → is_sooner from (get_or (on_the_way from points) k d) at ≡ true
-front-next from points n at x front below here passed = λ k d upto. by_order k d upto (cases_order k n)
+prefix-next from points n at x prefix below here passed = λ k d upto. by_order k d upto (cases_order k n)
   where
     by_order : (k : ℕ) (d : ℤ) → k < n + 1 → (k ≡ n) ⊎ ((k < n) ⊎ (n < k)) → is_sooner from (get_or (on_the_way from points) k d) at ≡ true
     by_order k d upto (inl same) =
         subst (λ (m : ℕ). is_sooner from (get_or (on_the_way from points) m d) at ≡ true) (sym same)
         (subst (λ (y : ℤ). is_sooner from y at ≡ true) (here ∙ default-free (on_the_way from points) n x d (omega (arith, length-way from points))) passed)
-    by_order k d upto (inr (inl less)) = front k d less
+    by_order k d upto (inr (inl less)) = prefix k d less
     by_order k d upto (inr (inr more)) = absurd (omega arith)

@@ -27,10 +27,10 @@ both_pass {X} {P} p q r (x ∷ xs) all many found =
     by_tests (p x) (q x) refl refl (λ more. both_pass p q r xs (and_parts (r x) (list_all r xs) all).1 more found)
   where
     by_tests : (b d : Bool) → p x ≡ b → q x ≡ d → (length xs < count_by p xs + count_by q xs → P) → P
-    by_tests true true one other behind = found x (and_parts (r x) (list_all r xs) all).0 one other
-    by_tests true false one other behind = behind (omega (arith, count-yes p x xs one, count-no q x xs other))
-    by_tests false true one other behind = behind (omega (arith, count-no p x xs one, count-yes q x xs other))
-    by_tests false false one other behind = behind (omega (arith, count-no p x xs one, count-no q x xs other))
+    by_tests true true one other following = found x (and_parts (r x) (list_all r xs) all).0 one other
+    by_tests true false one other following = following (omega (arith, count-yes p x xs one, count-no q x xs other))
+    by_tests false true one other following = following (omega (arith, count-no p x xs one, count-yes q x xs other))
+    by_tests false false one other following = following (omega (arith, count-no p x xs one, count-no q x xs other))
 
 -- the best of those that pass a test passes it
 module _ {X : Type 0} (beats : X → X → Bool) (test : X → Bool) where
@@ -52,8 +52,8 @@ module _ {X : Type 0} (beats : X → X → Bool) (test : X → Bool) where
     where
       by_test : (b : Bool) → test y ≡ b → ((next : Option X) → Passes next → Passes (fold (better beats) next (filter test ys)))
           → Passes (fold (better beats) o (cond b (y ∷ filter test ys) (filter test ys)))
-      by_test true passed behind = behind (better beats o y) (better-passes o y before passed)
-      by_test false failed behind = behind o before
+      by_test true passed following = following (better beats o y) (better-passes o y before passed)
+      by_test false failed following = following o before
 
   pub best-passes : (xs : List X) (x : X) → Some x ≡ best beats (filter test xs) → test x ≡ true
   best-passes xs x is = subst Passes (sym is) (fold-passes None xs tt)

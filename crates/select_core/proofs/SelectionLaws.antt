@@ -20,23 +20,23 @@ module _ {A B : Type 0} (beats : B → B → Bool) (test : B → Bool) (f : A �
       ∙ ap (best beats) (filter-append test (map f (take i xs)) (f (get_or xs i d) ∷ []))
       ∙ by_test (test (f (get_or xs i d))) (filter test (map f (take i xs))) (f (get_or xs i d))
     where
-      by_test : (b : Bool) (front : List B) (y : B) → best beats (front ++ cond b (y ∷ []) []) ≡ cond b (better beats (best beats front) y) (best beats front)
-      by_test true front y = fold_push (better beats) None front y
-      by_test false front y = ap (best beats) (append-nil front)
+      by_test : (b : Bool) (prefix : List B) (y : B) → best beats (prefix ++ cond b (y ∷ []) []) ≡ cond b (better beats (best beats prefix) y) (best beats prefix)
+      by_test true prefix y = fold_push (better beats) None prefix y
+      by_test false prefix y = ap (best beats) (append-nil prefix)
 
   pub end-taken : (xs : List A) (i : ℕ) (d : A) (x : B) (before after : Option B) → i < length xs → x ≡ f (get_or xs i d) → test x ≡ true
       → before ≡ best beats (filter test (map f (take i xs))) → after ≡ better beats before x → after ≡ best beats (filter test (map f (take (i + 1) xs)))
-  end-taken xs i d x before after below end passed front step =
+  end-taken xs i d x before after below end passed prefix step =
       let more = end-more xs i d below in
       let is : test (f (get_or xs i d)) ≡ true = ap test (sym end) ∙ passed in
-      step ∙ (λ j. better beats (front j) (end j)) ∙ sym (more ∙ ap (λ (b : Bool). cond b (better beats (best beats (filter test (map f (take i xs)))) (f (get_or xs i d))) (best beats (filter test (map f (take i xs))))) is)
+      step ∙ (λ j. better beats (prefix j) (end j)) ∙ sym (more ∙ ap (λ (b : Bool). cond b (better beats (best beats (filter test (map f (take i xs)))) (f (get_or xs i d))) (best beats (filter test (map f (take i xs))))) is)
 
   pub end-passed : (xs : List A) (i : ℕ) (d : A) (x : B) (before : Option B) → i < length xs → x ≡ f (get_or xs i d) → test x ≡ false
       → before ≡ best beats (filter test (map f (take i xs))) → before ≡ best beats (filter test (map f (take (i + 1) xs)))
-  end-passed xs i d x before below end failed front =
+  end-passed xs i d x before below end failed prefix =
       let more = end-more xs i d below in
       let is : test (f (get_or xs i d)) ≡ false = ap test (sym end) ∙ failed in
-      front ∙ sym (more ∙ ap (λ (b : Bool). cond b (better beats (best beats (filter test (map f (take i xs)))) (f (get_or xs i d))) (best beats (filter test (map f (take i xs))))) is)
+      prefix ∙ sym (more ∙ ap (λ (b : Bool). cond b (better beats (best beats (filter test (map f (take i xs)))) (f (get_or xs i d))) (best beats (filter test (map f (take i xs))))) is)
 
 module _ {Y : Type 0} (f : ℕ → Option Y) where
   one_less : (i n : ℕ) → i < n → n - i ≡ suc (n - (i + 1))

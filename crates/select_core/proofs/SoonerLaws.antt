@@ -22,10 +22,10 @@ sooner-chain Lower x y z h k = grind (arith, ints)
 sooner-chain Upper x y z h k = grind (arith, ints)
 
 -- no later than what is sooner, and sooner than what is no sooner
-pub sooner-from-front : (from : Side) (x y z : ℤ) → is_sooner from y x ≡ false → is_sooner from y z ≡ true → is_sooner from x z ≡ true
-sooner-from-front Lower x y z h k = grind (arith, ints)
-sooner-from-front Upper x y z h k = grind (arith, ints)
+pub sooner-from-prefix : (from : Side) (x y z : ℤ) → is_sooner from y x ≡ false → is_sooner from y z ≡ true → is_sooner from x z ≡ true
+sooner-from-prefix Lower x y z h k = grind (arith, ints)
+sooner-from-prefix Upper x y z h k = grind (arith, ints)
 
-pub sooner-to-behind : (from : Side) (x y z : ℤ) → is_sooner from x y ≡ true → is_sooner from z y ≡ false → is_sooner from x z ≡ true
-sooner-to-behind Lower x y z h k = grind (arith, ints)
-sooner-to-behind Upper x y z h k = grind (arith, ints)
+pub sooner-to-following : (from : Side) (x y z : ℤ) → is_sooner from x y ≡ true → is_sooner from z y ≡ false → is_sooner from x z ≡ true
+sooner-to-following Lower x y z h k = grind (arith, ints)
+sooner-to-following Upper x y z h k = grind (arith, ints)

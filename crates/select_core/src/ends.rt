@@ -39,12 +39,12 @@ fn come_to(from: Side, points: &Points, passed: usize) -> Span
 // How many points the search visits before a point, where this many are known to be.
 fn count_passed(from: Side, points: &Points, known: usize, at: Span) -> usize
     requires known { known ≤ length points.now }
-    requires front { (k : ℕ) (d : ℤ) → k < known →
+    requires prefix { (k : ℕ) (d : ℤ) → k < known →
         is_sooner from (slice_index_or (on_the_way from points.now) k d) at ≡ true }
     ensures value { result ≡ ended from points.now at }
     ensures within { result ≤ length points.now }
     ensures few { result ≤ 16 }
-    ensures front { (k : ℕ) (d : ℤ) → k < result →
+    ensures prefix { (k : ℕ) (d : ℤ) → k < result →
         is_sooner from (slice_index_or (on_the_way from points.now) k d) at ≡ true }
 {
     for passed in known..points.len() {

@@ -1,9 +1,9 @@
 -- What a link that its supervisor holds receives and sends, and how long a request waits.
 use Rattle.std.specs.Prelude.{◌≡◌, ◌≤◌, ℕ, Bool, true, false, Option, None, Some, Result, IsOk, List, [], ◌∷◌, length, take}
-use Rattle.feed_link.specs.declared.outside.Address.{Address}
-use Rattle.feed_link.specs.declared.link.Hearing.{Hearing}
-use Rattle.feed_link.specs.declared.link.Hearing.TheVariants.{Datagram, Quiet, End}
-use Rattle.feed_link.specs.Told.{Adds}
+use Rattle.outside_traits.specs.declared.outside.Address.{Address}
+use Rattle.outside_traits.specs.declared.link.Hearing.{Hearing}
+use Rattle.outside_traits.specs.declared.link.Hearing.TheVariants.{Datagram, Quiet, End}
+use Rattle.outside_traits.specs.States.{Adds}
 use Rattle.host_links.specs.Sockets.{Passed, Gives, GivesAt, GivesNone, PassesOver, Posts, Repeats, is_passed_over, moment_of}
 use Rattle.host_links.specs.Sockets.Passed.{GaveNone}
 use Rattle.service_links.specs.declared.link.Waited.{Waited}

@@ -4,7 +4,7 @@ use Rattle.std.specs.Prelude.{◌==◌, ◌||◌, ◌&&◌, ◌-◌, ◌*◌, �
 use Rattle.ntp_packet.specs.Layout.{fields}
 use Rattle.ntp_packet.specs.declared.header.Header.{Header}
 use Rattle.tick_units.specs.declared.stamp.Stamp.{Stamp}
-use Rattle.feed_link.specs.declared.outside.Address.{Address}
+use Rattle.outside_traits.specs.declared.outside.Address.{Address}
 use Rattle.service_links.specs.declared.pace.Pace.{Pace}
 use Rattle.service_links.specs.declared.pace.Kiss.{Kiss}
 use Rattle.service_links.specs.declared.pace.Kiss.TheVariants.{Slower, Never}
@@ -87,13 +87,13 @@ noting (Some asking) to bytes = Some (sending asking to bytes)
 abbrev pub is_from : Request → Address → Bool
 is_from request from = from.ip == request.to.ip && from.port == request.to.port
 
-abbrev pub heard_kiss : Option Request → Address → List ℕ → Option Kiss
-heard_kiss None from bytes = None
-heard_kiss (Some request) from bytes = if is_from request from then kiss_in bytes request.stamp else None
+abbrev pub received_kiss : Option Request → Address → List ℕ → Option Kiss
+received_kiss None from bytes = None
+received_kiss (Some request) from bytes = if is_from request from then kiss_in bytes request.stamp else None
 
 -- the kiss code of a datagram from this sender, where it is the asked server and the code is for the last request
 abbrev pub kiss_for : Asking → Address → List ℕ → Option Kiss
-kiss_for asking from bytes = heard_kiss asking.request from bytes
+kiss_for asking from bytes = received_kiss asking.request from bytes
 
 abbrev pub after_kiss : Asking → ℕ → Option Kiss → Asking
 after_kiss asking moment None = asking

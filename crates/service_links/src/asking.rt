@@ -4,7 +4,7 @@ ghost use Rattle.service_links.specs.Paces.{kiss_for, kiss_in, after_kiss, asked
 
 use crate::pace::stamp_of;
 use crate::{Kiss, Pace, kiss_of};
-use feed_link::Address;
+use outside_traits::Address;
 use tick_units::{Local, Stamp};
 
 /// A request: its receiver and its transmit timestamp.

@@ -2,7 +2,7 @@
 //! and a pace for requests to servers.
 //!
 //! To read it in this order: `word` (what the supervisor writes), `signal`, `handed` (what it hands over), `watch` (a link's
-//! beginning and end), `pace` and `asking` (when a link asks a server), `link` and `outside` (the traits of `feed_link`).
+//! beginning and end), `pace` and `asking` (when a link asks a server), `link` and `outside` (the traits of `outside_traits`).
 #![tactic(auto)]
 
 mod asking;

@@ -1,8 +1,8 @@
 //! A link of a run that a supervisor holds.
 ghost use Rattle.std.specs.Prelude.{◌≡◌, ◌≤◌, ◌⊎◌, ℕ, true, min, Option, None, Some, length, IfOk, IfSome, MatchOption, MatchResult, Ok, take, if◌then◌else◌};
-ghost use Rattle.feed_link.specs.Faults.{RoseByOne, HasCause};
-ghost use Rattle.feed_link.specs.Links.{Hears, IsDeaf, TellsMoment, Sends};
-ghost use Rattle.feed_link.specs.declared.link.Hearing.TheVariants.{End};
+ghost use Rattle.outside_traits.specs.Faults.{RoseByOne, HasCause};
+ghost use Rattle.outside_traits.specs.Links.{ReceivesNext, IsDeaf, ReportsMoment, Sends};
+ghost use Rattle.outside_traits.specs.declared.link.Hearing.TheVariants.{End};
 ghost use Rattle.host_links.specs.Real.{socket_state, file_number};
 ghost use Rattle.host_links.specs.Sockets.{PassesOver, Repeats, is_passed_over, moment_of};
 ghost use Rattle.service_links.specs.Held.{GivesPart, GivesUntilEnd, GivesWaited, PostsUntilEnd, NeedsNoWait, after_hearing, ends_asking};
@@ -10,10 +10,10 @@ ghost use Rattle.service_links.specs.Paces.{after_kiss, asked_at, heeding, is_ne
 ghost use Rattle.service_links.specs.declared.link.Waited.TheVariants.{Silence, Over};
 
 use crate::{Asking, Pace, Watch};
-use feed_link::{Address, Arrival, Failed, Hearing, Link};
 use host_links::{
     DatagramSocket, Received, moment_at, receive_once, send_whole, whole_microseconds,
 };
+use outside_traits::{Address, Arrival, Failed, Hearing, Link};
 use std::thread;
 use std::time::{Clock, Duration};
 use tick_units::Local;
@@ -300,7 +300,7 @@ impl<R: Clock + Sync, S: DatagramSocket + Send + Drop> Link for ServiceLink<'_, 
 
     fn hear(&mut self, piece: &mut [u8; 1024]) -> Result<Hearing, Failed>
         ensures heard { MatchResult result
-            (λ hearing. Hears (socket_state self.old.latest self.old.faults)
+            (λ hearing. ReceivesNext (socket_state self.old.latest self.old.faults)
             (socket_state self.new.latest self.new.faults) hearing piece.new)
             (λ _. IsDeaf (socket_state self.old.latest self.old.faults)
             (socket_state self.new.latest self.new.faults)) }
@@ -337,7 +337,7 @@ impl<R: Clock + Sync, S: DatagramSocket + Send + Drop> Link for ServiceLink<'_, 
     }
 
     fn moment(&mut self) -> Local
-        ensures told { TellsMoment (socket_state self.old.latest self.old.faults)
+        ensures reported { ReportsMoment (socket_state self.old.latest self.old.faults)
             (socket_state self.new.latest self.new.faults) result }
         ensures number { file_number ≡ file_number }
 

@@ -1,15 +1,15 @@
 //! The files of the host, and the links that a supervisor hands over.
 ghost use Rattle.std.specs.Prelude.{◌≡◌, ◌≤◌, ◌∷◌, [], None, false, IfOk, MatchResult};
-ghost use Rattle.feed_link.specs.Faults.{RoseByOne, HasCause};
-ghost use Rattle.feed_link.specs.Openings.{GrowsBy, IsNext, answered, failed};
-ghost use Rattle.feed_link.specs.Openings.Wanted.{LinkAt};
-ghost use Rattle.feed_link.specs.Openings.State.{OfLink};
+ghost use Rattle.outside_traits.specs.Faults.{RoseByOne, HasCause};
+ghost use Rattle.outside_traits.specs.Openings.{GrowsBy, IsNext, answered, failed};
+ghost use Rattle.outside_traits.specs.Openings.Wanted.{LinkAt};
+ghost use Rattle.outside_traits.specs.Openings.State.{OfLink};
 ghost use Rattle.host_links.specs.Real.{host_state, socket_state, file_number};
 ghost use Rattle.service_links.specs.Paces.{new_asking};
 
 use crate::{Handed, HandedSocket, Pace, Reason, ServiceLink, Watch};
-use feed_link::{Failed, OpenGate, Outside};
 use host_links::{FileSource, Refusal};
+use outside_traits::{Failed, OpenGate, Outside};
 use std::fs;
 use std::io::{self, Eprint, ErrorKind};
 use std::net::{IpAddr, Ipv4Addr, Net, SocketAddr};

@@ -2,7 +2,7 @@
 
 use crate::texts::write_texts;
 use file_commands::Subject;
-use station_config::Station;
+use station_values::Station;
 use std::fmt;
 use std::net::Ipv4Addr;
 

@@ -1,14 +1,8 @@
-//! What a station is: its radios, servers, links, keys and denied nets, within their bounds.
-//!
-//! To read it in this order: `station` (the public type, and the parts that it is made of), `denied_net`, `shared_key`,
-//! `one_of_each` (a station without a file).
+//! A station and its reader in one crate: what a station is (`station_values`), and how it is read from a file (`station_reader`). It
+//! has no items of its own, so that the crates which only name a station need not wait for the reader.
 #![tactic(auto)]
 
-mod denied_net;
-mod one_of_each;
-mod shared_key;
-mod station;
-
-pub use denied_net::DeniedNet;
-pub use shared_key::SharedKey;
-pub use station::{LinkRow, Parts, Radio, RadioRow, ServerRow, Station, TopNumbers};
+pub use station_reader::{KeyText, StationFault, read_station};
+pub use station_values::{
+    DeniedNet, LinkRow, Parts, Radio, RadioRow, ServerRow, SharedKey, Station, TopNumbers,
+};

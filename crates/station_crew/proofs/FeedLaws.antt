@@ -8,7 +8,7 @@ use Rattle.std.proofs.lemmas.List.Elements.{All-append, All-head, All-map, filte
 use Rattle.std.proofs.lemmas.List.FromFn.{get_or-map-range_with_len, length-map-range_with_len}
 use mathlib.Core.List.{IsPrefix}
 use Rattle.atomic_table.specs.Seated.{TableId}
-use Rattle.feed_link.specs.Told.{SourceState, LinkState}
+use Rattle.outside_traits.specs.States.{SourceState, LinkState}
 use Rattle.feed_workers.specs.Keeping.{Keeps, Share, share_of}
 use Rattle.feed_workers.specs.Leaps.{due_leap}
 use Rattle.feed_workers.specs.Polls.{due_link}
@@ -22,14 +22,14 @@ use Rattle.page_cell.specs.Views.{new_claim}
 use Rattle.page_cell.specs.declared.view.Claim.{Claim}
 use Rattle.radio_receiver.specs.Boxes.{Boxed}
 use Rattle.radio_receiver.specs.Histories.{History}
-use Rattle.station_config.specs.Station.{RadioFields, ServerFields}
+use Rattle.station_values.specs.Station.{RadioFields, ServerFields}
 use Rattle.crew_work.proofs.ListLaws.{all_right, below_or, both_keeps, each_keeps, each_map, last_same, map_both, pairs_at, pairs_length, snoc_view, some_of}
 use Rattle.station_crew.proofs.PassLaws.{feeds_length, leap_at, poller_at, radio_at}
 use Rattle.crew_work.specs.Due.{HasDue}
-use Rattle.station_crew.specs.Jobs.{IsManned, LeapRan, MayHear, MayNotice, MayPoll, PollRan, RadioRan}
-use Rattle.station_crew.specs.Leaving.{file_of, leap_pass, log_of, passes_of, poll_pass, radio_pass, server_link, server_of}
+use Rattle.station_crew.specs.Jobs.{IsAssigned, LeapRan, MayReceive, MayNotice, MayPoll, PollRan, RadioRan}
+use Rattle.station_crew.specs.Collecting.{file_of, leap_pass, log_of, passes_of, poll_pass, radio_pass, server_link, server_of}
 use Rattle.crew_work.specs.Lists.{Both, Each, Pairs}
-use Rattle.crew_work.specs.Served.{AreBlank, AsksServer, HearsRadio, IsBlank, LeapServed, NoticesLeaps, RadiosServed, ServersServed, column_of, seen}
+use Rattle.crew_work.specs.Served.{AreBlank, AsksServer, ReadsRadio, IsBlank, LeapServed, NoticesLeaps, RadiosServed, ServersServed, column_of, seen}
 use Rattle.station_crew.specs.declared.jobs.LeapJob.{LeapJob}
 use Rattle.station_crew.specs.declared.jobs.PollJob.{PollJob}
 use Rattle.station_crew.specs.declared.jobs.RadioJob.{RadioJob}
@@ -48,10 +48,10 @@ due_of share f due j number own k t le = record {
   lost = (λ e. ((k.lost e).0, let s = (k.lost e).1 in let p = prefix_length share.claim.seen j t.seen in omega (arith, s, p, le)));
 }
 
-hears_radio : {L X : Type 0} {F : X → Type 0} (stands : Boxed X F → History → Type 0) (state : L → SourceState) (opening : L → ℕ) (limit : ℕ) (radio : RadioFields) (a b : RadioJob L X F) (j : List Entry) (f : ℕ)
+reads_radio : {L X : Type 0} {F : X → Type 0} (stands : Boxed X F → History → Type 0) (state : L → SourceState) (opening : L → ℕ) (limit : ℕ) (radio : RadioFields) (a b : RadioJob L X F) (j : List Entry) (f : ℕ)
     → claim_of a.worker.pass.view ≡ new_claim f → HasDecoded stands a.worker.decoder (claim_of a.worker.pass.view).number radio.plan radio.delay []
-    → RadioRan stands state opening limit a b → IsTrueOf j (claim_of b.worker.pass.view) → length j ≤ limit → HearsRadio radio (column_of f limit j) (state a.worker.log) (state b.worker.log) b.work
-hears_radio stands state opening limit radio a b j f is start r t le =
+    → RadioRan stands state opening limit a b → IsTrueOf j (claim_of b.worker.pass.view) → length j ≤ limit → ReadsRadio radio (column_of f limit j) (state a.worker.log) (state b.worker.log) b.work
+reads_radio stands state opening limit radio a b j f is start r t le =
     let runs = r.runs radio.plan radio.delay start in
     let number = ap (λ (c : Claim). c.number) is in
     let share = share_of (claim_of a.worker.pass.view) b.worker.pass limit b.work.full in
@@ -68,7 +68,7 @@ asks_server state opening limit a b j f is r t le =
     let share = share_of (claim_of a.worker.pass.view) b.worker.pass limit b.work.full in
     record {
       events = r.runs.events;
-      told = r.runs.told;
+      reported = r.runs.reported;
       ends = r.runs.ends;
       due = due_of share f (due_link f a.worker.server r.runs.events) j number (ap (λ (c : Claim). c.own) is) (subst (λ n. Keeps share (due_link n a.worker.server r.runs.events)) number r.runs.kept) t le;
     }
@@ -118,26 +118,26 @@ module _ {L T X : Type 0} {F : X → Type 0} where
     true_poller : (i : ℕ) (d : PollJob T) → i < length qs → IsTrueOf j (claim_of (get_or qs i d).worker.pass.view)
     true_poller i d lt = subst (λ (f : Known). IsTrueOf j (claim_of f.view)) (poller_at bs qs m i d lt) (all (length bs + i) (poll_pass d) (omega (arith, lt, feeds_length bs qs m)))
 
-    pub radios_served : (least : Boxed X F → ℕ) (radios : List RadioFields) (receivers : List (Boxed X F)) → AreBlank stands least radios receivers → Pairs (IsManned stands least) receivers cs → length j ≤ limit
+    pub radios_served : (least : Boxed X F → ℕ) (radios : List RadioFields) (receivers : List (Boxed X F)) → AreBlank stands least radios receivers → Pairs (IsAssigned stands least) receivers cs → length j ≤ limit
         → RadiosServed (seen log_state log_opening) radios (column_of 0 limit j) (map log_of cs) (map log_of bs) (map (λ x. x.work) bs)
-    radios_served least radios receivers blank manned le = record {
+    radios_served least radios receivers blank assigned le = record {
       openings = map_both log_opening log_of bs ∙ each_map (λ (x : RadioJob L X F). log_opening x.worker.log) (RadioRan stands log_state log_opening limit) (λ a b r. r.log) cs bs ran same ∙ sym (map_both log_opening log_of cs);
       count = length-map bs (λ x. x.work) ∙ same ∙ sym (length-map cs log_of);
       at = (λ i radio a b work lt'.
           let lt : i < length cs = omega (arith, lt', length-map cs log_of) in
           let ltb : i < length bs = omega (arith, lt, same) in
-          let ltr : i < length receivers = omega (arith, lt, pairs_length (IsManned stands least) receivers cs manned) in
+          let ltr : i < length receivers = omega (arith, lt, pairs_length (IsAssigned stands least) receivers cs assigned) in
           let ltf : i < length radios = omega (arith, ltr, pairs_length (IsBlank stands least) radios receivers blank) in
           let d = some_of cs i lt in
           let e = some_of receivers i ltr in
-          let w = pairs_at (IsManned stands least) receivers cs i e d manned ltr in
+          let w = pairs_at (IsAssigned stands least) receivers cs i e d assigned ltr in
           let v = pairs_at (IsBlank stands least) radios receivers i radio e blank ltf in
           let r = get_or radios i radio in
           let from_none : i ≡ 0 + i = omega arith in
-          subst (λ x. HearsRadio r (column_of (0 + i) limit j) (log_state x) (log_state (get_or (map log_of bs) i b)) (get_or (map (λ y. y.work) bs) i work)) (sym (get_or-map log_of cs i d a lt))
-          (subst (λ x. HearsRadio r (column_of (0 + i) limit j) (log_state (get_or cs i d).worker.log) (log_state x) (get_or (map (λ y. y.work) bs) i work)) (sym (get_or-map log_of bs i d b ltb))
-          (subst (λ x. HearsRadio r (column_of (0 + i) limit j) (log_state (get_or cs i d).worker.log) (log_state (get_or bs i d).worker.log) x) (sym (get_or-map (λ y. y.work) bs i d work ltb))
-          (hears_radio stands log_state log_opening limit r (get_or cs i d) (get_or bs i d) j (0 + i) (subst (λ n. claim_of (get_or cs i d).worker.pass.view ≡ new_claim n) from_none (radio_claim cs ps l k i d claims lt)) (w.start r.plan r.delay v.stands_for) (ran.at i d lt) (true_radio i d ltb) le))));
+          subst (λ x. ReadsRadio r (column_of (0 + i) limit j) (log_state x) (log_state (get_or (map log_of bs) i b)) (get_or (map (λ y. y.work) bs) i work)) (sym (get_or-map log_of cs i d a lt))
+          (subst (λ x. ReadsRadio r (column_of (0 + i) limit j) (log_state (get_or cs i d).worker.log) (log_state x) (get_or (map (λ y. y.work) bs) i work)) (sym (get_or-map log_of bs i d b ltb))
+          (subst (λ x. ReadsRadio r (column_of (0 + i) limit j) (log_state (get_or cs i d).worker.log) (log_state (get_or bs i d).worker.log) x) (sym (get_or-map (λ y. y.work) bs i d work ltb))
+          (reads_radio stands log_state log_opening limit r (get_or cs i d) (get_or bs i d) j (0 + i) (subst (λ n. claim_of (get_or cs i d).worker.pass.view ≡ new_claim n) from_none (radio_claim cs ps l k i d claims lt)) (w.start r.plan r.delay v.stands_for) (ran.at i d lt) (true_radio i d ltb) le))));
     }
 
     pub servers_served : (servers : List ServerFields) → map server_of ps ≡ servers → length j ≤ limit
@@ -164,78 +164,78 @@ module _ {L T X : Type 0} {F : X → Type 0} where
         served : (x y : Option (LeapJob L)) → map (λ f. claim_of f.view) (passes_of cs ps x) ≡ map new_claim (range_with_len 0 k) → Both (LeapRan log_state log_opening limit) x y
             → All (λ f. IsTrueOf j (claim_of f.view)) (passes_of bs qs y) → IfSome x (λ z. z.worker.start ≡ start)
             → LeapServed (seen log_state log_opening) start (column_of (length cs + length ps) limit j) (option_map file_of x) (option_map file_of y) (option_map (λ z. z.work) y)
-        served None None told both true_of at = tt
-        served None (Some y) told both true_of at = absurd both
-        served (Some x) None told both true_of at = absurd both
-        served (Some x) (Some y) told both true_of at =
+        served None None reported both true_of at = tt
+        served None (Some y) reported both true_of at = absurd both
+        served (Some x) None reported both true_of at = absurd both
+        served (Some x) (Some y) reported both true_of at =
             let it : IsTrueOf j (claim_of y.worker.pass.view) = subst (λ (f : Known). IsTrueOf j (claim_of f.view)) (leap_at bs qs y (leap_pass y)) (true_of (length bs + length qs) (leap_pass y) (omega (arith, feeds_length bs qs (Some y)))) in
-            (both.log, notices_leaps log_state log_opening limit x y j (length cs + length ps) start at (leap_claim cs ps x k told) both it le)
+            (both.log, notices_leaps log_state log_opening limit x y j (length cs + length ps) start at (leap_claim cs ps x k reported) both it le)
 
     -- the feed of the last entry has seen the whole journal
-    last_seen : (front : List Entry) (e : Entry) (c : Claim) → j ≡ front ++ e ∷ [] → c.number ≡ e.feed → IsTrueOf j c → length j ≤ length c.seen
-    last_seen front e c is number t = go (snoc_view t.seen.0)
+    last_seen : (prefix : List Entry) (e : Entry) (c : Claim) → j ≡ prefix ++ e ∷ [] → c.number ≡ e.feed → IsTrueOf j c → length j ≤ length c.seen
+    last_seen prefix e c is number t = go (snoc_view t.seen.0)
       where
         go : (t.seen.0 ≡ []) ⊎ ((r : List Entry) × (x : Entry) × (t.seen.0 ≡ r ++ x ∷ [])) → length j ≤ length c.seen
         go (inl none) = let a = ap length t.seen.1 in let b = ap length none in omega (arith, a, b, length-append c.seen t.seen.0)
         go (inr (r, x, some)) =
             let whole : j ≡ (c.seen ++ r) ++ x ∷ [] = sym t.seen.1 ∙ ap (λ l. c.seen ++ l) some ∙ sym (append_assoc c.seen r (x ∷ [])) in
-            let one : e ≡ x = last_same front (c.seen ++ r) e x (sym is ∙ whole) in
+            let one : e ≡ x = last_same prefix (c.seen ++ r) e x (sym is ∙ whole) in
             let more : of_feed c.number j ≡ of_feed c.number (c.seen ++ r) ++ x ∷ [] = ap (λ l. of_feed c.number l) whole ∙ of_same c.number (c.seen ++ r) x (sym (number ∙ ap (λ (y : Entry). y.feed) one)) in
             let n = ap length (sym more ∙ sym t.own ∙ t.own_seen) in
             absurd (omega (arith, n, ap length (filter-append (λ (y : Entry). y.feed == c.number) c.seen r), length-append (of_feed c.number c.seen) (of_feed c.number r), length-append (of_feed c.number (c.seen ++ r)) (x ∷ [])))
 
     -- who has seen what all feeds have seen has seen the journal
     pub seen_all : All (IsKept k) j → (n : ℕ) → All (λ f. length (claim_of f.view).seen ≤ n) (passes_of bs qs m) → length j ≤ n
-    seen_all lawful n seen = go (snoc_view j)
+    seen_all valid n seen = go (snoc_view j)
       where
         count_is : length cs + length ps + length (option_to_list l) ≡ k
         count_is = let e = ap length claims in omega (arith, e, feeds_length cs ps l, length-map (passes_of cs ps l) (λ (f : Known). claim_of f.view), length-map-range_with_len new_claim 0 k)
 
-        of_radio : (front : List Entry) (e : Entry) → j ≡ front ++ e ∷ [] → e.feed < length bs → length j ≤ n
-        of_radio front e is lt =
+        of_radio : (prefix : List Entry) (e : Entry) → j ≡ prefix ++ e ∷ [] → e.feed < length bs → length j ≤ n
+        of_radio prefix e is lt =
             let d = some_of bs e.feed lt in
             let ltc : e.feed < length cs = omega (arith, lt, same) in
             let number = (ran.at e.feed d ltc).feed ∙ ap (λ (z : Claim). z.number) (radio_claim cs ps l k e.feed d claims ltc) in
-            let a = last_seen front e (claim_of (get_or bs e.feed d).worker.pass.view) is number (true_radio e.feed d lt) in
+            let a = last_seen prefix e (claim_of (get_or bs e.feed d).worker.pass.view) is number (true_radio e.feed d lt) in
             let b = subst (λ (f : Known). length (claim_of f.view).seen ≤ n) (radio_at bs qs m e.feed d lt) (seen e.feed (radio_pass d) (omega (arith, lt, feeds_length bs qs m))) in
             omega (arith, a, b)
 
-        of_poller : (front : List Entry) (e : Entry) (i : ℕ) → j ≡ front ++ e ∷ [] → e.feed ≡ length cs + i → i < length qs → length j ≤ n
-        of_poller front e i is at lt =
+        of_poller : (prefix : List Entry) (e : Entry) (i : ℕ) → j ≡ prefix ++ e ∷ [] → e.feed ≡ length cs + i → i < length qs → length j ≤ n
+        of_poller prefix e i is at lt =
             let d = some_of qs i lt in
             let ltc : i < length ps = omega (arith, lt, same') in
             let number = (polled.at i d ltc).feed ∙ ap (λ (z : Claim). z.number) (poller_claim cs ps l k i d claims ltc) ∙ sym at in
-            let a = last_seen front e (claim_of (get_or qs i d).worker.pass.view) is number (true_poller i d lt) in
+            let a = last_seen prefix e (claim_of (get_or qs i d).worker.pass.view) is number (true_poller i d lt) in
             let b = subst (λ (f : Known). length (claim_of f.view).seen ≤ n) (poller_at bs qs m i d lt) (seen (length bs + i) (poll_pass d) (omega (arith, lt, feeds_length bs qs m))) in
             omega (arith, a, b)
 
-        of_leap : (front : List Entry) (e : Entry) → j ≡ front ++ e ∷ [] → length cs + length ps ≤ e.feed → (x y : Option (LeapJob L)) → e.feed < length cs + length ps + length (option_to_list x)
+        of_leap : (prefix : List Entry) (e : Entry) → j ≡ prefix ++ e ∷ [] → length cs + length ps ≤ e.feed → (x y : Option (LeapJob L)) → e.feed < length cs + length ps + length (option_to_list x)
             → map (λ f. claim_of f.view) (passes_of cs ps x) ≡ map new_claim (range_with_len 0 k) → Both (LeapRan log_state log_opening limit) x y
             → All (λ f. IsTrueOf j (claim_of f.view)) (passes_of bs qs y) → All (λ f. length (claim_of f.view).seen ≤ n) (passes_of bs qs y) → length j ≤ n
-        of_leap front e is ge None y lt told both true_of saw = absurd (omega (arith, ge, lt))
-        of_leap front e is ge (Some x) None lt told both true_of saw = absurd both
-        of_leap front e is ge (Some x) (Some y) lt told both true_of saw =
+        of_leap prefix e is ge None y lt reported both true_of saw = absurd (omega (arith, ge, lt))
+        of_leap prefix e is ge (Some x) None lt reported both true_of saw = absurd both
+        of_leap prefix e is ge (Some x) (Some y) lt reported both true_of saw =
             let at : e.feed ≡ length cs + length ps = omega (arith, ge, lt) in
             let within : length bs + length qs < length (passes_of bs qs (Some y)) = omega (arith, feeds_length bs qs (Some y)) in
-            let number = both.feed ∙ ap (λ (z : Claim). z.number) (leap_claim cs ps x k told) ∙ sym at in
+            let number = both.feed ∙ ap (λ (z : Claim). z.number) (leap_claim cs ps x k reported) ∙ sym at in
             let it : IsTrueOf j (claim_of y.worker.pass.view) = subst (λ (f : Known). IsTrueOf j (claim_of f.view)) (leap_at bs qs y (leap_pass y)) (true_of (length bs + length qs) (leap_pass y) within) in
-            let a = last_seen front e (claim_of y.worker.pass.view) is number it in
+            let a = last_seen prefix e (claim_of y.worker.pass.view) is number it in
             let b = subst (λ (f : Known). length (claim_of f.view).seen ≤ n) (leap_at bs qs y (leap_pass y)) (saw (length bs + length qs) (leap_pass y) within) in
             omega (arith, a, b)
 
-        behind : (front : List Entry) (e : Entry) → j ≡ front ++ e ∷ [] → e.feed < k → length bs ≤ e.feed → (e.feed < length cs + length ps) ⊎ (length cs + length ps ≤ e.feed) → length j ≤ n
-        behind front e is counted ge (inl lt) = of_poller front e (e.feed - length bs) is (omega (arith, same, ge)) (omega (arith, same, same', ge, lt))
-        behind front e is counted ge (inr past) = of_leap front e is past l m (omega (arith, counted, count_is)) claims noticed all seen
+        later : (prefix : List Entry) (e : Entry) → j ≡ prefix ++ e ∷ [] → e.feed < k → length bs ≤ e.feed → (e.feed < length cs + length ps) ⊎ (length cs + length ps ≤ e.feed) → length j ≤ n
+        later prefix e is counted ge (inl lt) = of_poller prefix e (e.feed - length bs) is (omega (arith, same, ge)) (omega (arith, same, same', ge, lt))
+        later prefix e is counted ge (inr past) = of_leap prefix e is past l m (omega (arith, counted, count_is)) claims noticed all seen
 
-        placed : (front : List Entry) (e : Entry) → j ≡ front ++ e ∷ [] → e.feed < k → (e.feed < length bs) ⊎ (length bs ≤ e.feed) → length j ≤ n
-        placed front e is counted (inl lt) = of_radio front e is lt
-        placed front e is counted (inr ge) = behind front e is counted ge (below_or e.feed (length cs + length ps))
+        placed : (prefix : List Entry) (e : Entry) → j ≡ prefix ++ e ∷ [] → e.feed < k → (e.feed < length bs) ⊎ (length bs ≤ e.feed) → length j ≤ n
+        placed prefix e is counted (inl lt) = of_radio prefix e is lt
+        placed prefix e is counted (inr ge) = later prefix e is counted ge (below_or e.feed (length cs + length ps))
 
         go : (j ≡ []) ⊎ ((r : List Entry) × (x : Entry) × (j ≡ r ++ x ∷ [])) → length j ≤ n
         go (inl none) = let e = ap length none in omega (arith, e)
-        go (inr (front, e, is)) =
-            let kept = All-head (IsKept k) e [] (all_right (IsKept k) front (e ∷ []) (subst (All (IsKept k)) is lawful)) in
-            placed front e is kept.lawful.feed (below_or e.feed (length bs))
+        go (inr (prefix, e, is)) =
+            let kept = All-head (IsKept k) e [] (all_right (IsKept k) prefix (e ∷ []) (subst (All (IsKept k)) is valid)) in
+            placed prefix e is kept.valid.feed (below_or e.feed (length bs))
 
 module _ {L T X : Type 0} {F : X → Type 0} (table : TableId) (k : ℕ) (cs : List (RadioJob L X F)) (ps : List (PollJob T)) (l : Option (LeapJob L))
     (claims : map (λ f. claim_of f.view) (passes_of cs ps l) ≡ map new_claim (range_with_len 0 k)) (tables : All (λ f. f.table ≡ table) (passes_of cs ps l)) where
@@ -243,10 +243,10 @@ module _ {L T X : Type 0} {F : X → Type 0} (table : TableId) (k : ℕ) (cs : L
   feed_count = let e = ap length claims in omega (arith, e, feeds_length cs ps l, length-map (passes_of cs ps l) (λ (f : Known). claim_of f.view), length-map-range_with_len new_claim 0 k)
 
   -- a radio's worker that was manned may run
-  pub may_hear : (stands : Boxed X F → History → Type 0) (least : Boxed X F → ℕ) (receivers : List (Boxed X F)) → Pairs (IsManned stands least) receivers cs → All (MayHear least table k) cs
-  may_hear stands least receivers manned = λ i d lt.
-      let e = some_of receivers i (omega (arith, lt, pairs_length (IsManned stands least) receivers cs manned)) in
-      let h = pairs_at (IsManned stands least) receivers cs i e d manned (omega (arith, lt, pairs_length (IsManned stands least) receivers cs manned)) in
+  pub may_receive : (stands : Boxed X F → History → Type 0) (least : Boxed X F → ℕ) (receivers : List (Boxed X F)) → Pairs (IsAssigned stands least) receivers cs → All (MayReceive least table k) cs
+  may_receive stands least receivers assigned = λ i d lt.
+      let e = some_of receivers i (omega (arith, lt, pairs_length (IsAssigned stands least) receivers cs assigned)) in
+      let h = pairs_at (IsAssigned stands least) receivers cs i e d assigned (omega (arith, lt, pairs_length (IsAssigned stands least) receivers cs assigned)) in
       let number = ap (λ (c : Claim). c.number) (radio_claim cs ps l k i d claims lt) in
       record {
         ready = h.ready;
@@ -276,9 +276,9 @@ module _ {L T X : Type 0} {F : X → Type 0} (table : TableId) (k : ℕ) (cs : L
     where
       may : (x : Option (LeapJob L)) → map (λ f. claim_of f.view) (passes_of cs ps x) ≡ map new_claim (range_with_len 0 k) → All (λ f. f.table ≡ table) (passes_of cs ps x)
           → length cs + length ps + length (option_to_list x) ≡ k → IfSome x (MayNotice table k)
-      may None told of counted = tt
-      may (Some x) told of counted =
-          let number = ap (λ (c : Claim). c.number) (leap_claim cs ps x k told) in
+      may None reported of counted = tt
+      may (Some x) reported of counted =
+          let number = ap (λ (c : Claim). c.number) (leap_claim cs ps x k reported) in
           record {
             pass = record {
               table_is = ap (λ (f : Known). f.table) (sym (leap_at cs ps x (leap_pass x))) ∙ of (length cs + length ps) (leap_pass x) (omega (arith, feeds_length cs ps (Some x)));

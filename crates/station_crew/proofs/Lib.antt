@@ -1,6 +1,6 @@
--- Laws of this crate: PassLaws (the passes of all feeds, place by place), LeavingLaws (what workers leave, one after the other), FeedLaws
+-- Laws of this crate: PassLaws (the passes of all feeds, place by place), CollectingLaws (what workers leave, one after the other), FeedLaws
 -- and LinkLaws (what closing reports of each feed and of each link).
 pub mod PassLaws
-pub mod LeavingLaws
+pub mod CollectingLaws
 pub mod FeedLaws
 pub mod LinkLaws

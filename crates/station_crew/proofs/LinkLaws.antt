@@ -7,8 +7,8 @@ use Rattle.std.proofs.lemmas.Grind.{flat_map-append}
 use Rattle.std.proofs.lemmas.List.{length-map, get_or-map, map-append, append-nil}
 use Rattle.std.proofs.lemmas.List.Elements.{All-nil, All-append, All-cons, All-head, All-tail, All-weaker}
 use Rattle.atomic_table.specs.Seated.{TableId}
-use Rattle.feed_link.proofs.ToldLaws.{Adds-none}
-use Rattle.feed_link.specs.Told.{LinkState}
+use Rattle.outside_traits.proofs.StateLaws.{Adds-none}
+use Rattle.outside_traits.specs.States.{LinkState}
 use Rattle.journal_entry.specs.declared.entry.Entry.{Entry}
 use Rattle.kiss_gate.specs.Gates.{Gate}
 use Rattle.packet_auth.specs.Keys.{KeyFields, keys_of}
@@ -26,11 +26,11 @@ use Rattle.responder.specs.declared.served.End.TheVariants.{Count, LinkEnd, Link
 use Rattle.responder.specs.declared.served.Served.{Served}
 use Rattle.crew_work.proofs.ListLaws.{all_right, each_map, map_both, pairs_at, pairs_length, some_of}
 use Rattle.station_crew.specs.Crews.{IsNewReader}
-use Rattle.station_crew.specs.Leaving.{link_of, serve_pass}
+use Rattle.station_crew.specs.Collecting.{link_of, serve_pass}
 use Rattle.station_crew.specs.Jobs.{HasServed, HasServedAgain}
 use Rattle.crew_work.specs.Lists.{Each, Pairs}
 use Rattle.crew_work.specs.Served.{HasSecond, IsReadOf, LinksServed, ServesLink, ServesPhase, Service, seen}
-use Rattle.station_crew.specs.Telling.{HasSeenAll, HasServedTwice, WasTold}
+use Rattle.station_crew.specs.Informing.{HasSeenAll, HasServedTwice, WasInformed}
 use Rattle.station_crew.specs.declared.jobs.ServeJob.{ServeJob}
 use Rattle.crew_work.specs.declared.work.Budget.{Budget}
 use Rattle.crew_work.specs.declared.work.LinkWork.{LinkWork}
@@ -86,7 +86,7 @@ serves_link : {T : Type 0} (state : T → LinkState) (opening : T → ℕ) (keys
     → keys_of a.responder.keys ≡ keys → a.responder.clients ≡ gate → ((r : KnownReader) → HasSeenAll feeds r → length j ≤ r.view.seen)
     → HasServedTwice state opening budget feeds a b → HasRead s j b.responder.pass.view → ServesLink (by_parts keys gate s j budget) (state a.responder.link) (state b.responder.link) b.work
 unfolding is_count
-serves_link {T = T} state opening keys gate s j budget feeds a b unseen unread untorn none keyed gated bound t h = go t.told.work.first.end refl
+serves_link {T = T} state opening keys gate s j budget feeds a b unseen unread untorn none keyed gated bound t h = go t.informed.work.first.end refl
   where
     first : List Turn
     first = t.served.serves.turns
@@ -94,47 +94,47 @@ serves_link {T = T} state opening keys gate s j budget feeds a b unseen unread u
     p : Took (desk_of state a.responder) (desk_of state t.between.responder) first
     p = t.served.serves.took
 
-    lawful_first : AreTurns keys gate first t.between.responder.clients
-    lawful_first = subst (λ z. AreTurns keys z first t.between.responder.clients) gated (subst (λ ks. AreTurns ks a.responder.clients first t.between.responder.clients) keyed p.lawful)
+    valid_first : AreTurns keys gate first t.between.responder.clients
+    valid_first = subst (λ z. AreTurns keys z first t.between.responder.clients) gated (subst (λ ks. AreTurns ks a.responder.clients first t.between.responder.clients) keyed p.valid)
 
-    told_keys : keys_of t.told.responder.keys ≡ keys
-    told_keys = ap keys_of (t.learnt.keys ∙ t.served.same.keys) ∙ keyed
+    informed_keys : keys_of t.informed.responder.keys ≡ keys
+    informed_keys = ap keys_of (t.learnt.keys ∙ t.served.same.keys) ∙ keyed
 
-    link_is : state t.told.responder.link ≡ state t.between.responder.link
+    link_is : state t.informed.responder.link ≡ state t.between.responder.link
     link_is = ap state t.learnt.link
 
-    told : Desk
-    told = desk_of state t.told.responder
+    informed : Desk
+    informed = desk_of state t.informed.responder
 
     -- the desk at the end, with the gate that the turns of the second phase left
     left_with : Gate → Desk
     left_with last_gate = record (desk_of state b.responder) { gate = last_gate }
 
     v : View
-    v = t.told.responder.pass.view
+    v = t.informed.responder.pass.view
 
     le : length j ≤ v.seen
-    le = bound t.told.responder.pass t.learnt.seen
+    le = bound t.informed.responder.pass t.learnt.seen
 
     first_is : b.work.first ≡ t.between.work.first
     first_is = t.again.first ∙ ap (λ (z : LinkWork). z.first) t.learnt.work
 
-    end_is : t.told.work.first.end ≡ b.work.first.end
+    end_is : t.informed.work.first.end ≡ b.work.first.end
     end_is = ap (λ (z : Served). z.end) (sym t.again.first)
 
-    readings_told : v.readings ≡ map kept (flat_map readings_of first)
-    readings_told = t.learnt.learnt.readings ∙ p.readings ∙ ap (λ l. l ++ map kept (flat_map readings_of first)) unread
+    readings_reported : v.readings ≡ map kept (flat_map readings_of first)
+    readings_reported = t.learnt.learnt.readings ∙ p.readings ∙ ap (λ l. l ++ map kept (flat_map readings_of first)) unread
 
     rises : Rises 0 (flat_map readings_of first) t.between.responder.pass.view.seen
     rises = subst (λ n. Rises n (flat_map readings_of first) t.between.responder.pass.view.seen) unseen p.rising
 
-    torn_told : v.watch.torn ≡ sum_by torn_of first
-    torn_told = ap (λ w. w.torn) t.learnt.learnt.watch ∙ p.torn ∙ (let z = untorn in omega (arith, z))
+    torn_informed : v.watch.torn ≡ sum_by torn_of first
+    torn_informed = ap (λ w. w.torn) t.learnt.learnt.watch ∙ p.torn ∙ (let z = untorn in omega (arith, z))
 
-    gone : (second : List Turn) (last_gate : Gate) → Took told (left_with last_gate) second → HasSecond budget.after (state t.between.responder.link) (state b.responder.link) b.work second
+    gone : (second : List Turn) (last_gate : Gate) → Took informed (left_with last_gate) second → HasSecond budget.after (state t.between.responder.link) (state b.responder.link) b.work second
         → ServesLink (by_parts keys gate s j budget) (state a.responder.link) (state b.responder.link) b.work
     gone second last_gate q ends =
-        let whole : b.responder.pass.view.readings ≡ map kept (flat_map readings_of (first ++ second)) = q.readings ∙ ap (λ l. l ++ map kept (flat_map readings_of second)) readings_told ∙ sym (map-append kept (flat_map readings_of first) (flat_map readings_of second)) ∙ ap (λ l. map kept l) (sym (flat_map-append readings_of first second)) in
+        let whole : b.responder.pass.view.readings ≡ map kept (flat_map readings_of (first ++ second)) = q.readings ∙ ap (λ l. l ++ map kept (flat_map readings_of second)) readings_reported ∙ sym (map-append kept (flat_map readings_of first) (flat_map readings_of second)) ∙ ap (λ l. map kept l) (sym (flat_map-append readings_of first second)) in
         let pages = reads_of s j (flat_map readings_of (first ++ second)) (subst (All (IsReading s j)) whole h.readings)
         (subst (All IsRead) (sym (flat_map-append readings_of first second)) (All-append IsRead (flat_map readings_of first) (flat_map readings_of second) p.pages q.pages)) in
         let gap = rises_gap 0 _ v.seen _ (flat_map readings_of first) (flat_map readings_of second) rises t.learnt.learnt.seen q.rising in
@@ -149,30 +149,30 @@ serves_link {T = T} state opening keys gate s j budget feeds a b unseen unread u
           first_phase = subst (λ z. ServesPhase budget.during (state a.responder.link) (state t.between.responder.link) z first) (sym first_is) (phase_of (desk_of state a.responder) (desk_of state t.between.responder) budget.during t.between.work.first t.served.serves);
           second_phase = ends;
           gate_now = last_gate;
-          lawful = turns_both keys gate t.between.responder.clients last_gate first second lawful_first (subst (λ z. AreTurns keys z second last_gate) t.learnt.clients (subst (λ ks. AreTurns ks t.told.responder.clients second last_gate) told_keys q.lawful));
+          valid = turns_both keys gate t.between.responder.clients last_gate first second valid_first (subst (λ z. AreTurns keys z second last_gate) t.learnt.clients (subst (λ ks. AreTurns ks t.informed.responder.clients second last_gate) informed_keys q.valid));
           pages = pages;
           last = gap.0;
           rising = subst (λ l. Rises 0 l gap.0) (sym (flat_map-append readings_of first second)) gap.1;
           whole = both_bounds s j v.seen (flat_map readings_of second) le (rises_all v.seen _ (flat_map readings_of second) q.rising) back;
           none_again = quiet;
-          few_again = (let e = q.torn in let f = torn_told in omega (arith, quiet, e, f, few, great));
+          few_again = (let e = q.torn in let f = torn_informed in omega (arith, quiet, e, f, few, great));
         }
 
-    not_count : (e : End) → is_count e ≡ false → t.told.work.first.end ≡ e → ServesLink (by_parts keys gate s j budget) (state a.responder.link) (state b.responder.link) b.work
+    not_count : (e : End) → is_count e ≡ false → t.informed.work.first.end ≡ e → ServesLink (by_parts keys gate s j budget) (state a.responder.link) (state b.responder.link) b.work
     not_count e f is =
         let n = t.again.not (λ c. true≢false (ap is_count (sym c ∙ is) ∙ f)) in
-        gone [] t.told.responder.clients (subst (λ (z : KeyRing). Took told (record told { keys = keys_of z; link = state b.responder.link; view = b.responder.pass.view }) []) (sym t.again.same.keys)
-        (subst (λ (z : T). Took told (record told { link = state z; view = b.responder.pass.view }) []) (sym n.1) (subst (λ (z : KnownReader). Took told (record told { view = z.view }) []) (sym n.2) (took_none told told.link (Adds-none told.link.events)))))
+        gone [] t.informed.responder.clients (subst (λ (z : KeyRing). Took informed (record informed { keys = keys_of z; link = state b.responder.link; view = b.responder.pass.view }) []) (sym t.again.same.keys)
+        (subst (λ (z : T). Took informed (record informed { link = state z; view = b.responder.pass.view }) []) (sym n.1) (subst (λ (z : KnownReader). Took informed (record informed { view = z.view }) []) (sym n.2) (took_none informed informed.link (Adds-none informed.link.events)))))
         (record {
           served = (λ c. absurd (true≢false (ap is_count (sym c ∙ sym end_is ∙ is) ∙ f)));
           not = (λ _. (n.0 ∙ ap (λ (z : LinkWork). z.second) t.learnt.work ∙ t.served.second ∙ none, ap state n.1 ∙ link_is, refl));
         })
 
-    go : (e : End) → t.told.work.first.end ≡ e → ServesLink (by_parts keys gate s j budget) (state a.responder.link) (state b.responder.link) b.work
+    go : (e : End) → t.informed.work.first.end ≡ e → ServesLink (by_parts keys gate s j budget) (state a.responder.link) (state b.responder.link) b.work
     go Count is =
         let r = t.again.again is in
         gone r.2.turns b.responder.clients r.2.took (record {
-          served = (λ _. (r.0, r.1, subst (λ (z : LinkState). ServesPhase budget.after z (state b.responder.link) r.0 r.2.turns) link_is (phase_of told (desk_of state b.responder) budget.after r.0 r.2)));
+          served = (λ _. (r.0, r.1, subst (λ (z : LinkState). ServesPhase budget.after z (state b.responder.link) r.0 r.2.turns) link_is (phase_of informed (desk_of state b.responder) budget.after r.0 r.2)));
           not = (λ c. absurd (c (sym end_is ∙ is)));
         })
     go LinkEnd is = not_count LinkEnd refl is
@@ -184,16 +184,16 @@ readers_are table xs new = λ i d lt. (subst (IsNewReader table) (get_or-map ser
 
 -- the responders have served in both phases
 pub served_twice : {T : Type 0} (state : T → LinkState) (opening : T → ℕ) (budget : Budget) (feeds : List Known) (xs ys zs ws : List (ServeJob T))
-    → Each (HasServed state opening budget.during) xs ys → length ys ≡ length xs → Pairs (WasTold feeds) ys zs → Each (HasServedAgain state opening budget.after) zs ws → Each (HasServedTwice state opening budget feeds) xs ws
-served_twice state opening budget feeds xs ys zs ws first same told second = record {
+    → Each (HasServed state opening budget.during) xs ys → length ys ≡ length xs → Pairs (WasInformed feeds) ys zs → Each (HasServedAgain state opening budget.after) zs ws → Each (HasServedTwice state opening budget feeds) xs ws
+served_twice state opening budget feeds xs ys zs ws first same informed second = record {
   at = (λ i d lt.
       let lt1 : i < length ys = omega (arith, lt, same) in
-      let lt2 : i < length zs = omega (arith, lt1, pairs_length (WasTold feeds) ys zs told) in
+      let lt2 : i < length zs = omega (arith, lt1, pairs_length (WasInformed feeds) ys zs informed) in
       record {
         between = get_or ys i d;
-        told = get_or zs i d;
+        informed = get_or zs i d;
         served = first.at i d lt;
-        learnt = pairs_at (WasTold feeds) ys zs i d d told lt1;
+        learnt = pairs_at (WasInformed feeds) ys zs i d d informed lt1;
         again = second.at i d lt2;
       });
 }

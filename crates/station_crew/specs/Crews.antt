@@ -7,15 +7,15 @@ use Rattle.packet_auth.specs.Keys.{keys_of}
 use Rattle.page_cell.specs.Passes.{KnownReader}
 use Rattle.radio_receiver.specs.Boxes.{Boxed}
 use Rattle.radio_receiver.specs.Histories.{History}
-use Rattle.station_config.specs.Station.{StationFields, gate_of}
-use Rattle.station_crew.specs.Jobs.{IsManned}
-use Rattle.station_crew.specs.Leaving.{file_of, link_of, log_of, number_of, passes_of, server_link, server_of}
+use Rattle.station_values.specs.Station.{StationFields, gate_of}
+use Rattle.station_crew.specs.Jobs.{IsAssigned}
+use Rattle.station_crew.specs.Collecting.{file_of, link_of, log_of, number_of, passes_of, server_link, server_of}
 use Rattle.crew_work.specs.Lists.{Pairs}
 use Rattle.crew_work.specs.declared.work.Work.{Work}
 use Rattle.station_crew.specs.declared.crew.Crew.{Crew}
-use Rattle.station_crew.specs.declared.crew.Left.{Left}
+use Rattle.station_crew.specs.declared.crew.Collected.{Collected}
 use Rattle.station_crew.specs.declared.crew.Passes.{Passes}
-use Rattle.station_crew.specs.declared.crew.Room.{Room}
+use Rattle.station_crew.specs.declared.crew.Reserved.{Reserved}
 use Rattle.station_gear.specs.declared.gear.Gear.{Gear}
 
 -- a reader's pass of this cell that has seen and read nothing
@@ -63,23 +63,23 @@ pub record HasRoomForPasses (of_radios of_servers of_links : ℕ) (passes : Pass
   pub readers : of_links ≤ vec_capacity passes.readers
 
 -- room for what the workers leave
-pub record HasRoomToLeave {L T : Type 0} (of_radios of_servers of_links : ℕ) (left : Left L T) : Type 0 where
-  pub gear : HasRoomForGear of_radios of_servers of_links left.gear
-  pub work : HasRoomForWork of_radios of_servers of_links left.work
-  pub passes : HasRoomForPasses of_radios of_servers of_links left.passes
+pub record HasRoomToCollect {L T : Type 0} (of_radios of_servers of_links : ℕ) (collected : Collected L T) : Type 0 where
+  pub gear : HasRoomForGear of_radios of_servers of_links collected.gear
+  pub work : HasRoomForWork of_radios of_servers of_links collected.work
+  pub passes : HasRoomForPasses of_radios of_servers of_links collected.passes
 
 -- room for all of it, and for the responders of the second phase; and this gate once for each link
-pub record HasRoom {L T X : Type 0} {F : X → Type 0} (gate : Gate) (of_radios of_servers of_links : ℕ) (room : Room L T X F) : Type 0 where
+pub record HasRoom {L T X : Type 0} {F : X → Type 0} (gate : Gate) (of_radios of_servers of_links : ℕ) (room : Reserved L T X F) : Type 0 where
   pub crew : HasRoomFor of_radios of_servers of_links room.crew
-  pub none_told : room.told.items ≡ []
-  pub told : of_links ≤ vec_capacity room.told
-  pub left : HasRoomToLeave of_radios of_servers of_links room.left
+  pub none_informed : room.informed.items ≡ []
+  pub informed : of_links ≤ vec_capacity room.informed
+  pub collected : HasRoomToCollect of_radios of_servers of_links room.collected
   pub gates : vec_len room.gates ≡ of_links
   pub alike : All (λ g. g ≡ gate) room.gates.items
 
 -- each worker has its receiver, its log or its link, and its server, in the station's order, and the leap second file's begins at the station's first moment; the responders are numbered from 0, and have the station's keys and a gate of its own each
-pub record CrewManned {L T X : Type 0} {F : X → Type 0} (stands : Boxed X F → History → Type 0) (least : Boxed X F → ℕ) (station : StationFields) (receivers : List (Boxed X F)) (gear : Gear L T) (crew : Crew L T X F) : Type 0 where
-  pub receivers_are : Pairs (IsManned stands least) receivers crew.radios.items
+pub record CrewAssigned {L T X : Type 0} {F : X → Type 0} (stands : Boxed X F → History → Type 0) (least : Boxed X F → ℕ) (station : StationFields) (receivers : List (Boxed X F)) (gear : Gear L T) (crew : Crew L T X F) : Type 0 where
+  pub receivers_are : Pairs (IsAssigned stands least) receivers crew.radios.items
   pub logs : map log_of crew.radios.items ≡ gear.logs.items
   pub servers : map server_link crew.pollers.items ≡ gear.servers.items
   pub asked : map server_of crew.pollers.items ≡ station.servers
@@ -92,20 +92,20 @@ pub record CrewManned {L T X : Type 0} {F : X → Type 0} (stands : Boxed X F �
   pub gated : All (λ j. j.responder.clients ≡ gate_of station) crew.responders.items
 
 -- the feeds' workers of a crew left this
-pub record FeedsLeft {L T X : Type 0} {F : X → Type 0} (crew : Crew L T X F) (left : Left L T) : Type 0 where
-  pub logs : left.gear.logs.items ≡ map log_of crew.radios.items
-  pub servers : left.gear.servers.items ≡ map server_link crew.pollers.items
-  pub file : left.gear.leap ≡ option_map file_of crew.leap
-  pub log_works : left.work.radios.items ≡ map (λ j. j.work) crew.radios.items
-  pub poll_works : left.work.servers.items ≡ map (λ j. j.work) crew.pollers.items
-  pub leap_work : left.work.leap ≡ option_map (λ j. j.work) crew.leap
-  pub feeds : left.passes.feeds.items ≡ passes_of crew.radios.items crew.pollers.items crew.leap
+pub record FeedsCollected {L T X : Type 0} {F : X → Type 0} (crew : Crew L T X F) (collected : Collected L T) : Type 0 where
+  pub logs : collected.gear.logs.items ≡ map log_of crew.radios.items
+  pub servers : collected.gear.servers.items ≡ map server_link crew.pollers.items
+  pub file : collected.gear.leap ≡ option_map file_of crew.leap
+  pub log_works : collected.work.radios.items ≡ map (λ j. j.work) crew.radios.items
+  pub poll_works : collected.work.servers.items ≡ map (λ j. j.work) crew.pollers.items
+  pub leap_work : collected.work.leap ≡ option_map (λ j. j.work) crew.leap
+  pub feeds : collected.passes.feeds.items ≡ passes_of crew.radios.items crew.pollers.items crew.leap
 
 -- room for what this many responders leave
-pub record HasRoomForServed {L T : Type 0} (of_links : ℕ) (left : Left L T) : Type 0 where
-  pub no_links : left.gear.links.items ≡ []
-  pub no_works : left.work.links.items ≡ []
-  pub no_readers : left.passes.readers.items ≡ []
-  pub links : of_links ≤ vec_capacity left.gear.links
-  pub works : of_links ≤ vec_capacity left.work.links
-  pub readers : of_links ≤ vec_capacity left.passes.readers
+pub record HasRoomForServed {L T : Type 0} (of_links : ℕ) (collected : Collected L T) : Type 0 where
+  pub no_links : collected.gear.links.items ≡ []
+  pub no_works : collected.work.links.items ≡ []
+  pub no_readers : collected.passes.readers.items ≡ []
+  pub links : of_links ≤ vec_capacity collected.gear.links
+  pub works : of_links ≤ vec_capacity collected.work.links
+  pub readers : of_links ≤ vec_capacity collected.passes.readers

@@ -1,7 +1,7 @@
 -- Scaffolding: what each worker does.
 use Rattle.std.specs.Prelude.{◌≡◌, ◌≢◌, ℕ, [], Some}
 use Rattle.atomic_table.specs.Seated.{TableId}
-use Rattle.feed_link.specs.Told.{SourceState, LinkState}
+use Rattle.outside_traits.specs.States.{SourceState, LinkState}
 use Rattle.feed_workers.specs.Keeping.{IsOfFeed}
 use Rattle.feed_workers.specs.Leaps.{RunsLeap, leap_intake}
 use Rattle.feed_workers.specs.Logs.{RunsLog, log_intake}
@@ -21,14 +21,14 @@ use Rattle.station_crew.specs.declared.jobs.ServeJob.{ServeJob}
 use Rattle.tick_units.specs.declared.marks.Plan.{Plan}
 
 -- a radio's worker that decodes the log of its pass's feed and has decoded nothing yet; its receiver's history is that of the start
-pub record IsManned {L X : Type 0} {F : X → Type 0} (stands : Boxed X F → History → Type 0) (least : Boxed X F → ℕ) (receiver : Boxed X F) (j : RadioJob L X F) : Type 0 where
+pub record IsAssigned {L X : Type 0} {F : X → Type 0} (stands : Boxed X F → History → Type 0) (least : Boxed X F → ℕ) (receiver : Boxed X F) (j : RadioJob L X F) : Type 0 where
   pub ready : IsReady least j.worker.decoder
   pub feed : feed_of j.worker.decoder ≡ (claim_of j.worker.pass.view).number
   pub start : (plan : Plan) (delay : ℕ) → stands receiver (record { plan = plan; delay = delay; reductions = [] })
       → HasDecoded stands j.worker.decoder (claim_of j.worker.pass.view).number plan delay []
 
 -- a radio's worker with a pass of this cell, for one of a number of sources
-pub record MayHear {L X : Type 0} {F : X → Type 0} (least : Boxed X F → ℕ) (table : TableId) (sources : ℕ) (j : RadioJob L X F) : Type 0 where
+pub record MayReceive {L X : Type 0} {F : X → Type 0} (least : Boxed X F → ℕ) (table : TableId) (sources : ℕ) (j : RadioJob L X F) : Type 0 where
   pub ready : IsReady least j.worker.decoder
   pub pass : IsOfFeed table sources (feed_of j.worker.decoder) j.worker.pass
   pub feed : feed_of j.worker.decoder ≡ (claim_of j.worker.pass.view).number

@@ -10,7 +10,7 @@ use verdict_journal::Journal;
 
 /// What a station is served with: the receivers of its radios, and its logs and links or room for them.
 #[derive(Drop)]
-pub struct Kit<B: Drop, L: Drop, T: Drop> {
+pub struct Equipment<B: Drop, L: Drop, T: Drop> {
     pub receivers: Vec<B>,
     pub gear: Gear<L, T>,
 }
@@ -18,12 +18,12 @@ pub struct Kit<B: Drop, L: Drop, T: Drop> {
 /// The memory that a station is served in: the parts of its cell, room for its workers and for what they leave, and a gate of
 /// clients for each link. The hub takes the room for its entries from `alloc`.
 #[derive(Drop)]
-pub struct Room<L: Drop, T: Drop> {
+pub struct Reserved<L: Drop, T: Drop> {
     pub alloc: Global,
     pub parts: CellParts,
     pub crew: Crew<L, T>,
-    pub told: Vec<ServeJob<T>>,
-    pub left: Left<L, T>,
+    pub informed: Vec<ServeJob<T>>,
+    pub collected: Collected<L, T>,
     pub gates: Vec<ClientGate>,
 }
 
@@ -45,7 +45,7 @@ pub struct Crew<L: Drop, T: Drop> {
 
 /// What the workers leave, each in the station's order: logs and links, what they did, and the passes.
 #[derive(Drop)]
-pub struct Left<L: Drop, T: Drop> {
+pub struct Collected<L: Drop, T: Drop> {
     pub gear: Gear<L, T>,
     pub work: Work,
     pub passes: Passes,

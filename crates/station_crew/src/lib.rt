@@ -2,19 +2,19 @@
 //! journal.
 //!
 //! To read it in this order: `station` (the public call, and all memory), `named` (the station in its hub, from phase to phase),
-//! `manning` (each worker gets its pass), `phases` (the threads), `telling` (what responders learn between the phases), `leaving`
+//! `assigning` (each worker gets its pass), `phases` (the threads), `informing` (what responders learn between the phases), `collecting`
 //! (what the workers give back). `crew` and `jobs` have what these pass on.
 #![tactic(auto)]
 
+mod assigning;
+mod collecting;
 mod crew;
+mod informing;
 mod jobs;
-mod leaving;
-mod manning;
 mod named;
 mod phases;
 mod station;
-mod telling;
 
-pub use crew::{Ended, Kit};
+pub use crew::{Ended, Equipment};
 pub use crew_work::{Budget, LinkWork, Orders, Work};
 pub use station::serve_station;

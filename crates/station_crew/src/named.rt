@@ -3,22 +3,22 @@ ghost use Rattle.std.specs.Prelude.{◌≡◌, ◌<◌, ◌≤◌, [], All, IfEr
 ghost use Rattle.std.specs.List.{range_with_len};
 ghost use Rattle.page_cell.specs.Passes.{claim_of, key_of};
 ghost use Rattle.page_cell.specs.Views.{new_claim};
-ghost use Rattle.station_config.specs.Station.{IsStation, gate_of, leap_feed, settings_of};
+ghost use Rattle.station_values.specs.Station.{IsStation, gate_of, leap_feed, settings_of};
 ghost use Rattle.station_crew.specs.Crews.{HasRoom, IsNewReader};
 ghost use Rattle.station_gear.specs.Opens.{IsWhole};
 ghost use Rattle.crew_work.specs.Served.{AreBlank, IsJournalOf, LeapServed, LinksServed, RadiosServed, ServersServed};
 ghost use Rattle.crew_work.specs.Served.{column_of, seen, service_of};
 
-use crate::crew::{Ended, Kit, Left, Passes, Room};
-use crate::leaving::{leave_feeds, leave_responders};
-use crate::manning::man_crew;
+use crate::assigning::assign_crew;
+use crate::collecting::{collect_feeds, collect_responders};
+use crate::crew::{Collected, Ended, Equipment, Passes, Reserved};
+use crate::informing::inform_responders;
 use crate::phases::{run_first, run_second};
-use crate::telling::tell_responders;
 use crew_work::Orders;
-use feed_link::{Gate, Link, Source};
+use outside_traits::{Gate, Link, Source};
 use radio_receiver::{BoxedReceiver, Receiver};
-use station_config::Station;
 use station_gear::Gear;
+use station_values::Station;
 use std::sync::Wait;
 use std::thread::Threads;
 use verdict_journal::{Hub, HubName, HubParts};
@@ -36,8 +36,8 @@ pub fn serve_named<
     gate: &G,
     station: &Station,
     orders: Orders,
-    kit: Kit<BoxedReceiver, L, T>,
-    room: Room<L, T>,
+    equipment: Equipment<BoxedReceiver, L, T>,
+    room: Reserved<L, T>,
 ) -> Result<Ended<L, T>, Gear<L, T>>
     requires station { IsStation station.now }
     requires cell { (room.parts.cell.table ≡ N.table) × (room.parts.baton.table ≡ N.table) }
@@ -45,59 +45,64 @@ pub fn serve_named<
         × (settings_of station.now ≡ N.settings) }
     requires fresh { room.parts.baton.view.list ≡ [] }
     requires limit { (orders.limit ≡ N.limit) × (0 < orders.limit) × (orders.limit ≤ 4194304) }
-    requires blank { AreBlank stands_for least_start station.now.radios kit.receivers.items }
-    requires gear { IsWhole station.now kit.gear }
+    requires blank { AreBlank stands_for least_start station.now.radios equipment.receivers.items }
+    requires gear { IsWhole station.now equipment.gear }
     requires claims { let numbers = range_with_len 0 (length N.settings.sources) in
         map (λ f. claim_of f.view) room.parts.feeds.items ≡ map new_claim numbers }
     requires feeds { All (λ f. f.table ≡ N.table) room.parts.feeds.items }
     requires readers { All (IsNewReader N.table) room.parts.readers.items }
-    requires count { vec_len room.parts.readers ≡ vec_len kit.gear.links }
-    requires room { let of_servers = vec_len kit.gear.servers in
-        HasRoom (gate_of station.now) (vec_len kit.gear.logs) of_servers (vec_len kit.gear.links) room }
+    requires count { vec_len room.parts.readers ≡ vec_len equipment.gear.links }
+    requires room { let of_servers = vec_len equipment.gear.servers in
+        HasRoom (gate_of station.now) (vec_len equipment.gear.logs) of_servers (vec_len equipment.gear.links) room }
     ensures journal { IfOk result (λ e. IsJournalOf (settings_of station.now) orders.limit e.journal) }
     ensures radios { IfOk result (λ e. let column = column_of 0 orders.limit e.journal.entries in
         let work = e.work.radios.items in
-        RadiosServed (seen L.state L.opening) station.now.radios column kit.gear.logs.items e.gear.logs.items work) }
+        RadiosServed (seen L.state L.opening) station.now.radios column equipment.gear.logs.items e.gear.logs.items work) }
     ensures servers { IfOk result (λ e. let first = length station.now.radios in
         let column = column_of first orders.limit e.journal.entries in
-        let had = kit.gear.servers.items in
+        let had = equipment.gear.servers.items in
         let has = e.gear.servers.items in
         ServersServed (seen T.state T.opening) station.now.servers column had has e.work.servers.items) }
     ensures leap { IfOk result (λ e. let column = column_of (leap_feed station.now) orders.limit e.journal.entries in
         let start = station.now.top.start in
-        LeapServed (seen L.state L.opening) start column kit.gear.leap e.gear.leap e.work.leap) }
+        LeapServed (seen L.state L.opening) start column equipment.gear.leap e.gear.leap e.work.leap) }
     ensures links { IfOk result (λ e. let service = service_of station.now e.journal.entries orders.budget in
-        LinksServed (seen T.state T.opening) service kit.gear.links.items e.gear.links.items e.work.links.items) }
-    ensures memory { IfErr result (λ g. g ≡ kit.gear) }
+        LinksServed (seen T.state T.opening) service equipment.gear.links.items e.gear.links.items e.work.links.items) }
+    ensures memory { IfErr result (λ g. g ≡ equipment.gear) }
 {
-    let Room {
+    let Reserved {
         alloc,
         parts,
         crew,
-        mut told,
-        left,
+        mut informed,
+        collected,
         gates,
     } = room;
     let Ok(parts) = Hub::<N>::open(alloc, parts, station.settings(), orders.limit) else {
-        return Err(kit.gear);
+        return Err(equipment.gear);
     };
     let HubParts {
         hub,
         feeds,
         readers,
     } = parts;
-    let mut crew = man_crew(station, kit, Passes { feeds, readers }, gates, crew);
+    let mut crew = assign_crew(station, equipment, Passes { feeds, readers }, gates, crew);
     run_first(rt, &hub, gate, orders.budget.during, &mut crew);
-    let (responders, mut left) = leave_feeds(crew, left);
-    tell_responders(hub.cell(), &mut left.passes.feeds, responders, &mut told);
-    run_second(rt, &hub, gate, orders.budget.after, &mut told);
-    leave_responders(
-        told,
-        &mut left.gear.links,
-        &mut left.work.links,
-        &mut left.passes.readers,
+    let (responders, mut collected) = collect_feeds(crew, collected);
+    inform_responders(
+        hub.cell(),
+        &mut collected.passes.feeds,
+        responders,
+        &mut informed,
     );
-    let Left { gear, work, passes } = left;
+    run_second(rt, &hub, gate, orders.budget.after, &mut informed);
+    collect_responders(
+        informed,
+        &mut collected.gear.links,
+        &mut collected.work.links,
+        &mut collected.passes.readers,
+    );
+    let Collected { gear, work, passes } = collected;
     Ok(Ended {
         journal: hub.close(passes.feeds, passes.readers),
         gear,

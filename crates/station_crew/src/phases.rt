@@ -1,12 +1,12 @@
 // The two phases: workers side by side.
 ghost use Rattle.std.specs.Prelude.{◌≡◌, All, IfSome, length, vec_len};
 ghost use Rattle.station_crew.specs.Jobs.{HasServed, HasServedAgain, LeapRan, PollRan, RadioRan};
-ghost use Rattle.station_crew.specs.Jobs.{MayHear, MayNotice, MayPoll};
+ghost use Rattle.station_crew.specs.Jobs.{MayReceive, MayNotice, MayPoll};
 ghost use Rattle.crew_work.specs.Lists.{Both, Each, Every};
 
 use crate::crew::Crew;
 use crate::jobs::{LeapJob, PollJob, RadioJob, ServeJob};
-use feed_link::{Gate, Link, Source};
+use outside_traits::{Gate, Link, Source};
 use radio_receiver::Receiver;
 use responder::End;
 use std::sync::Wait;
@@ -26,7 +26,7 @@ fn run_radios<N: HubName + Send + Sync, R: Threads + Wait + Sync, L: Source + Dr
     gate: &G,
     jobs: &mut [RadioJob<L>],
 )
-    requires { All (MayHear least_start N.table (length N.settings.sources)) jobs.old }
+    requires { All (MayReceive least_start N.table (length N.settings.sources)) jobs.old }
     ensures { Each (RadioRan stands_for L.state L.opening N.limit) jobs.old jobs.new }
 {
     thread::for_each_mut(
@@ -34,7 +34,7 @@ fn run_radios<N: HubName + Send + Sync, R: Threads + Wait + Sync, L: Source + Dr
         jobs,
         FEEDS,
         &|_i: usize, radio: &mut RadioJob<L>|
-            requires { MayHear least_start N.table (length N.settings.sources) radio.old }
+            requires { MayReceive least_start N.table (length N.settings.sources) radio.old }
             ensures { RadioRan stands_for L.state L.opening N.limit radio.old radio.new }
         {
             radio.work = radio.worker.run(rt, hub, gate);
@@ -145,7 +145,7 @@ fn run_feeds<
     pollers: &mut [PollJob<T>],
     leap: &mut Option<LeapJob<L>>,
 )
-    requires radios { Every (MayHear least_start N.table (length N.settings.sources)) radios.old }
+    requires radios { Every (MayReceive least_start N.table (length N.settings.sources)) radios.old }
     requires pollers { Every (λ j. MayPoll N.table (length N.settings.sources) j) pollers.old }
     requires leap { IfSome leap.old (λ j. MayNotice N.table (length N.settings.sources) j) }
     ensures radios { Each (RadioRan stands_for L.state L.opening N.limit) radios.old radios.new }
@@ -155,7 +155,7 @@ fn run_feeds<
     join_mut(
         rt,
         &mut ||
-            requires { Every (MayHear least_start N.table (length N.settings.sources)) radios.now }
+            requires { Every (MayReceive least_start N.table (length N.settings.sources)) radios.now }
             ensures { Each (RadioRan stands_for L.state L.opening N.limit) radios.entry.now radios.exit.now }
         { run_radios(rt, hub, gate, radios) },
         &mut ||
@@ -175,7 +175,7 @@ pub fn run_first<
     T: Link + Drop,
     G: Gate,
 >(rt: &R, hub: &Hub<N>, gate: &G, budget: u64, crew: &mut Crew<L, T>)
-    requires radios { Every (MayHear least_start N.table (length N.settings.sources)) crew.old.radios.items }
+    requires radios { Every (MayReceive least_start N.table (length N.settings.sources)) crew.old.radios.items }
     requires pollers { Every (λ j. MayPoll N.table (length N.settings.sources) j) crew.old.pollers.items }
     requires leap { IfSome crew.old.leap (λ j. MayNotice N.table (length N.settings.sources) j) }
     requires responders { Every (λ j. j.responder.pass.table ≡ N.table) crew.old.responders.items }
@@ -196,7 +196,7 @@ pub fn run_first<
     join_mut(
         rt,
         &mut ||
-            requires radios { Every (MayHear least_start N.table (length N.settings.sources)) radios.now.items }
+            requires radios { Every (MayReceive least_start N.table (length N.settings.sources)) radios.now.items }
             requires pollers { Every (λ j. MayPoll N.table (length N.settings.sources) j) pollers.now.items }
             requires leap { IfSome leap.now (λ j. MayNotice N.table (length N.settings.sources) j) }
             ensures radios { Each (RadioRan stands_for L.state L.opening N.limit) radios.entry.now.items

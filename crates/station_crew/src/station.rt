@@ -1,21 +1,21 @@
 //! Serves a station whose logs and links are open.
 ghost use Rattle.std.specs.Prelude.{◌≡◌, ◌<◌, ◌≤◌, ◌^◌, ◌+◌, All, IfErr, IfOk, length, vec_len};
-ghost use Rattle.station_config.specs.Station.{gate_of, leap_feed, settings_of};
-ghost use Rattle.station_crew.specs.Crews.{HasRoom, HasRoomFor, HasRoomToLeave};
+ghost use Rattle.station_values.specs.Station.{gate_of, leap_feed, settings_of};
+ghost use Rattle.station_crew.specs.Crews.{HasRoom, HasRoomFor, HasRoomToCollect};
 ghost use Rattle.station_crew.specs.Crews.{HasRoomForGear, HasRoomForPasses, HasRoomForWork};
 ghost use Rattle.station_gear.specs.Opens.{IsWhole};
 ghost use Rattle.crew_work.specs.Served.{AreBlank, IsJournalOf, LeapServed, LinksServed, RadiosServed, ServersServed};
 ghost use Rattle.crew_work.specs.Served.{column_of, seen, service_of};
 
-use crate::crew::{Crew, Ended, Kit, Left, Passes, Room};
+use crate::crew::{Collected, Crew, Ended, Equipment, Passes, Reserved};
 use crate::named::serve_named;
 use crew_work::{Orders, Work};
-use feed_link::{Gate, Link, Source};
 use kiss_gate::{ClientGate, GateOpen};
+use outside_traits::{Gate, Link, Source};
 use page_cell::{CellParts, PageCell};
 use radio_receiver::{BoxedReceiver, Receiver};
-use station_config::Station;
 use station_gear::Gear;
+use station_values::Station;
 use std::alloc::{AllocError, Global};
 use std::marker::Brand;
 use std::sync::Wait;
@@ -77,11 +77,14 @@ fn make_passes(alloc: Global, counts: Counts) -> Result<Passes, AllocError>
 }
 
 // Room for what the workers leave.
-fn make_left<L: Drop, T: Drop>(alloc: Global, counts: Counts) -> Result<Left<L, T>, AllocError>
+fn make_collected<L: Drop, T: Drop>(
+    alloc: Global,
+    counts: Counts,
+) -> Result<Collected<L, T>, AllocError>
     requires { counts.radios + counts.servers < 2 ^ 63 }
-    ensures { IfOk result (HasRoomToLeave counts.radios counts.servers counts.links) }
+    ensures { IfOk result (HasRoomToCollect counts.radios counts.servers counts.links) }
 {
-    Ok(Left {
+    Ok(Collected {
         gear: make_gear(alloc, counts)?,
         work: make_work(alloc, counts)?,
         passes: make_passes(alloc, counts)?,
@@ -116,7 +119,7 @@ fn make_room<L: Drop, T: Drop>(
     station: &Station,
     counts: Counts,
     parts: CellParts,
-) -> Result<Room<L, T>, AllocError>
+) -> Result<Reserved<L, T>, AllocError>
     requires { counts.radios + counts.servers < 2 ^ 63 }
     ensures room { IfOk result (HasRoom (gate_of station.now) counts.radios counts.servers counts.links) }
     ensures parts { IfOk result (λ room. room.parts ≡ parts) }
@@ -124,15 +127,15 @@ fn make_room<L: Drop, T: Drop>(
     match (
         make_crew(alloc, counts),
         Vec::with_capacity(alloc, counts.links),
-        make_left(alloc, counts),
+        make_collected(alloc, counts),
         open_gates(alloc, station, counts.links),
     ) {
-        (Ok(crew), Ok(told), Ok(left), Ok(gates)) => Ok(Room {
+        (Ok(crew), Ok(informed), Ok(collected), Ok(gates)) => Ok(Reserved {
             alloc,
             parts,
             crew,
-            told,
-            left,
+            informed,
+            collected,
             gates,
         }),
         _ => Err(AllocError),
@@ -144,7 +147,7 @@ fn make_room<L: Drop, T: Drop>(
 /// `orders.budget.during` hearings. Responders answer the clients of the links from the page of the journal so far, by the
 /// station's keys where the clients ask for that. A client that the station denies or that asks too often gets a kiss code. In the
 /// second phase those links that go on have `orders.budget.after` more hearings, with the page of the whole journal. Each link has
-/// a gate of clients of its own, which goes on from phase to phase. The receivers of the kit are those of the radios, in order,
+/// a gate of clients of its own, which goes on from phase to phase. The receivers of the equipment are those of the radios, in order,
 /// and have received nothing. All memory is taken before any log or link is used, except what a gate of clients takes for a new
 /// client. Where there is not enough, the gear comes back as it was.
 pub fn serve_station<R: Threads + Wait + Sync, L: Source + Drop, T: Link + Drop, G: Gate>(
@@ -153,26 +156,26 @@ pub fn serve_station<R: Threads + Wait + Sync, L: Source + Drop, T: Link + Drop,
     gate: &G,
     station: &Station,
     orders: Orders,
-    kit: Kit<BoxedReceiver, L, T>,
+    equipment: Equipment<BoxedReceiver, L, T>,
 ) -> Result<Ended<L, T>, Gear<L, T>>
     requires limit { (0 < orders.limit) × (orders.limit ≤ 4194304) }
-    requires blank { AreBlank stands_for least_start station.now.radios kit.receivers.items }
-    requires gear { IsWhole station.now kit.gear }
+    requires blank { AreBlank stands_for least_start station.now.radios equipment.receivers.items }
+    requires gear { IsWhole station.now equipment.gear }
     ensures journal { IfOk result (λ e. IsJournalOf (settings_of station.now) orders.limit e.journal) }
     ensures radios { IfOk result (λ e. let column = column_of 0 orders.limit e.journal.entries in
         let work = e.work.radios.items in
-        RadiosServed (seen L.state L.opening) station.now.radios column kit.gear.logs.items e.gear.logs.items work) }
+        RadiosServed (seen L.state L.opening) station.now.radios column equipment.gear.logs.items e.gear.logs.items work) }
     ensures servers { IfOk result (λ e. let first = length station.now.radios in
         let column = column_of first orders.limit e.journal.entries in
-        let had = kit.gear.servers.items in
+        let had = equipment.gear.servers.items in
         let has = e.gear.servers.items in
         ServersServed (seen T.state T.opening) station.now.servers column had has e.work.servers.items) }
     ensures leap { IfOk result (λ e. let column = column_of (leap_feed station.now) orders.limit e.journal.entries in
         let start = station.now.top.start in
-        LeapServed (seen L.state L.opening) start column kit.gear.leap e.gear.leap e.work.leap) }
+        LeapServed (seen L.state L.opening) start column equipment.gear.leap e.gear.leap e.work.leap) }
     ensures links { IfOk result (λ e. let service = service_of station.now e.journal.entries orders.budget in
-        LinksServed (seen T.state T.opening) service kit.gear.links.items e.gear.links.items e.work.links.items) }
-    ensures memory { IfErr result (λ g. g ≡ kit.gear) }
+        LinksServed (seen T.state T.opening) service equipment.gear.links.items e.gear.links.items e.work.links.items) }
+    ensures memory { IfErr result (λ g. g ≡ equipment.gear) }
 {
     let counts = Counts {
         radios: station.radios(),
@@ -180,10 +183,10 @@ pub fn serve_station<R: Threads + Wait + Sync, L: Source + Drop, T: Link + Drop,
         links: station.links(),
     };
     let Ok(parts) = PageCell::open(alloc, station.settings(), counts.links as u32) else {
-        return Err(kit.gear);
+        return Err(equipment.gear);
     };
     let Ok(room) = make_room(alloc, station, counts, parts) else {
-        return Err(kit.gear);
+        return Err(equipment.gear);
     };
-    serve_named::<Brand, R, L, T, G>(rt, gate, station, orders, kit, room)
+    serve_named::<Brand, R, L, T, G>(rt, gate, station, orders, equipment, room)
 }

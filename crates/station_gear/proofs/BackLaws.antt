@@ -1,22 +1,22 @@
 -- What is out in two parts, given back one part after the other.
 use Rattle.std.proofs.Common.{◌≡◌, ℕ, Option, Some, None, List, [], ◌∷◌, ◌++◌, length, refl, ap, sym, ◌∙◌, arith, subst}
 use Rattle.std.specs.Option.{option_map}
-use Rattle.feed_link.specs.Openings.{State, Opening, OutsideState, GivesBack, with_back}
-use Rattle.feed_link.specs.ManyOut.{AreAbove, AreOutAt, AreOut, with_backs, GivesAllBack}
-use Rattle.feed_link.proofs.ManyOutLaws.{AreOut-back}
+use Rattle.outside_traits.specs.Openings.{State, Opening, OutsideState, GivesBack, with_back}
+use Rattle.outside_traits.specs.ManyOut.{AreAbove, AreOutAt, AreOut, with_backs, GivesAllBack}
+use Rattle.outside_traits.proofs.ManyOutLaws.{AreOut-back}
 
 -- the first part is out
-above_front : (number : ℕ) (xs ys : List ℕ) → AreAbove number (xs ++ ys) → AreAbove number xs
-above_front number [] ys above = tt
-above_front number (x ∷ xs) ys above = (above.0, above_front number xs ys above.1)
+above_prefix : (number : ℕ) (xs ys : List ℕ) → AreAbove number (xs ++ ys) → AreAbove number xs
+above_prefix number [] ys above = tt
+above_prefix number (x ∷ xs) ys above = (above.0, above_prefix number xs ys above.1)
 
-out_front : (openings : List Opening) (xs ys : List ℕ) → AreOutAt openings (xs ++ ys) → AreOutAt openings xs
-out_front openings [] ys out = tt
-out_front openings (x ∷ xs) ys out = (out.0, above_front x xs ys out.1, out_front openings xs ys out.2)
+out_prefix : (openings : List Opening) (xs ys : List ℕ) → AreOutAt openings (xs ++ ys) → AreOutAt openings xs
+out_prefix openings [] ys out = tt
+out_prefix openings (x ∷ xs) ys out = (out.0, above_prefix x xs ys out.1, out_prefix openings xs ys out.2)
 
-pub AreOut-front : (openings : Option (List Opening)) (xs ys : List ℕ) → AreOut openings (xs ++ ys) → AreOut openings xs
-AreOut-front None xs ys out = tt
-AreOut-front (Some openings) xs ys out = out_front openings xs ys out
+pub AreOut-prefix : (openings : Option (List Opening)) (xs ys : List ℕ) → AreOut openings (xs ++ ys) → AreOut openings xs
+AreOut-prefix None xs ys out = tt
+AreOut-prefix (Some openings) xs ys out = out_prefix openings xs ys out
 
 -- the second part is out once the first one is back
 then_all : (o : Option (List Opening)) (number : ℕ) (numbers : List ℕ) (state : State) (states : List State) →

@@ -3,14 +3,14 @@ use Rattle.std.proofs.Common.{◌≡◌, ℕ, Option, None, List, [], ◌∷◌,
 use Rattle.std.specs.Prelude.{Result, Ok, Err, MatchResult}
 use Rattle.std.specs.Option.{MatchOption, option_to_list}
 use Rattle.std.proofs.lemmas.List.{length-append, length-map}
-use Rattle.feed_link.specs.Faults.{RoseByOne}
-use Rattle.feed_link.specs.Told.{SourceState, LinkState}
-use Rattle.feed_link.specs.Openings.{Wanted, State, OutsideState, MakesOpenings, Visit, failed}
-use Rattle.feed_link.specs.Openings.State.{OfLog, OfLink}
-use Rattle.feed_link.specs.ManyOut.{Held, AreOut, GivesAllBack, returned}
-use Rattle.feed_link.proofs.ManyOutLaws.{AreOut-held, GrowsBy-back}
-use Rattle.feed_link.proofs.OpeningLaws.{opens_more}
-use Rattle.station_config.specs.Station.{StationFields}
+use Rattle.outside_traits.specs.Faults.{RoseByOne}
+use Rattle.outside_traits.specs.States.{SourceState, LinkState}
+use Rattle.outside_traits.specs.Openings.{Wanted, State, OutsideState, MakesOpenings, Visit, failed}
+use Rattle.outside_traits.specs.Openings.State.{OfLog, OfLink}
+use Rattle.outside_traits.specs.ManyOut.{Held, AreOut, GivesAllBack, returned}
+use Rattle.outside_traits.proofs.ManyOutLaws.{AreOut-held, GrowsBy-back}
+use Rattle.outside_traits.proofs.OpeningLaws.{opens_more}
+use Rattle.station_values.specs.Station.{StationFields}
 use Rattle.station_gear.specs.Gears.{numbers_of, states_of, wanted_by}
 use Rattle.station_gear.specs.Opens.{HoldsOpenings, OpensAll, StopsAt, failing_of}
 use Rattle.station_gear.specs.declared.gear.Missing.{Missing}
@@ -75,8 +75,8 @@ module _ (needed : List Wanted) (numbers numbers_now : List ℕ) (states : List 
       let size : length states_now ≡ length held.outs = sizes ∙ ap (λ (l : List ℕ). length l) same ∙ held.count in
       let given : GivesAllBack mid now numbers states_now = subst (λ l. GivesAllBack mid now l states_now) same gives in
       record {
-        behind = held.behind;
-        in_order = held.in_order ∙ ap (λ l. l ++ (option_to_list failing ++ held.behind)) (sym (same_what held.outs states_now size));
+        later = held.later;
+        in_order = held.in_order ∙ ap (λ l. l ++ (option_to_list failing ++ held.later)) (sym (same_what held.outs states_now size));
         noted = GrowsBy-back before mid now [] held.outs (map failed (option_to_list failing)) numbers states_now held.noted held.numbered given held.count size;
         faults = subst (λ n. MatchOption failing (n ≡ before.faults) (λ _. RoseByOne before.faults n)) (sym gives.no_fault) held.faults;
       }

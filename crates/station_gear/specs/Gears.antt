@@ -2,11 +2,11 @@
 -- second file is a log. All of it is this project's own.
 use Rattle.std.specs.Prelude.{◌≡◌, ◌≤◌, ℕ, None, List, [], ◌++◌, length, map, vec_capacity}
 use Rattle.std.specs.Option.{option_to_list}
-use Rattle.feed_link.specs.Told.{SourceState, LinkState}
-use Rattle.feed_link.specs.Openings.{Wanted, State}
-use Rattle.feed_link.specs.Openings.Wanted.{LogOf, LinkAt}
-use Rattle.feed_link.specs.Openings.State.{OfLog, OfLink}
-use Rattle.station_config.specs.Station.{StationFields}
+use Rattle.outside_traits.specs.States.{SourceState, LinkState}
+use Rattle.outside_traits.specs.Openings.{Wanted, State}
+use Rattle.outside_traits.specs.Openings.Wanted.{LogOf, LinkAt}
+use Rattle.outside_traits.specs.Openings.State.{OfLog, OfLink}
+use Rattle.station_values.specs.Station.{StationFields}
 use Rattle.station_gear.specs.declared.gear.Gear.{Gear}
 
 -- the logs of its radios, by their names

@@ -1,11 +1,11 @@
 -- Which of the logs and links of a station were opened and are out, and which one is missing.
 use Rattle.std.specs.Prelude.{◌≡◌, ◌-◌, ◌&&◌, ℕ, min, nat_le, is_some, Option, None, Some, Result, Ok, Err, List, ◌++◌, length, map, slice_get, vec_len}
 use Rattle.std.specs.Option.{MatchOption, option_map, option_to_list}
-use Rattle.feed_link.specs.Faults.{RoseByOne}
-use Rattle.feed_link.specs.Openings.{Wanted, State, OutsideState, GrowsBy, failed}
-use Rattle.feed_link.specs.Openings.Wanted.{LogOf}
-use Rattle.feed_link.specs.ManyOut.{Held, held_opening, AreNumbers}
-use Rattle.station_config.specs.Station.{StationFields}
+use Rattle.outside_traits.specs.Faults.{RoseByOne}
+use Rattle.outside_traits.specs.Openings.{Wanted, State, OutsideState, GrowsBy, failed}
+use Rattle.outside_traits.specs.Openings.Wanted.{LogOf}
+use Rattle.outside_traits.specs.ManyOut.{Held, held_opening, AreNumbers}
+use Rattle.station_values.specs.Station.{StationFields}
 use Rattle.station_gear.specs.Gears.{logs_needed, servers_needed, links_needed, wanted_by}
 use Rattle.station_gear.specs.declared.gear.Gear.{Gear}
 use Rattle.station_gear.specs.declared.gear.Missing.{Missing}
@@ -16,11 +16,11 @@ use Rattle.station_gear.specs.declared.gear.Missing.TheVariants.{Feed, LeapFile,
 -- otherwise it stays. Those after it are not opened.
 pub record HoldsOpenings (needed : List Wanted) (numbers : List ℕ) (states : List State) (before now : OutsideState) (failing : Option Wanted) : Type 0 where
   pub outs : List Held
-  pub behind : List Wanted
-  pub in_order : needed ≡ map (λ held. held.what) outs ++ (option_to_list failing ++ behind)
+  pub later : List Wanted
+  pub in_order : needed ≡ map (λ held. held.what) outs ++ (option_to_list failing ++ later)
   pub noted : GrowsBy before now (map held_opening outs ++ map failed (option_to_list failing))
   pub faults : MatchOption failing (now.faults ≡ before.faults) (λ _. RoseByOne before.faults now.faults)
-  pub told : states ≡ map (λ held. held.opened) outs
+  pub reported : states ≡ map (λ held. held.opened) outs
   pub count : length numbers ≡ length outs
   pub numbered : AreNumbers before.openings now.openings 0 numbers
 

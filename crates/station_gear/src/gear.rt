@@ -2,7 +2,7 @@
 ghost use Rattle.std.specs.Prelude.{IfOk};
 ghost use Rattle.station_gear.specs.Gears.{IsEmptyFor};
 
-use station_config::Station;
+use station_values::Station;
 use std::alloc::{AllocError, Global};
 
 /// The logs and links of a station that are open: its radios' logs, its leap second file, its servers' links, and the links that

@@ -5,8 +5,8 @@ ghost use Rattle.station_gear.specs.Gears.{IsEmptyFor, logs_needed, leap_needed,
 ghost use Rattle.station_gear.specs.Opens.{OpensAll, StopsIn, StopsAt, IsWhole, IsUpTo};
 
 use crate::{Gear, Missing};
-use feed_link::{Failed, Outside};
-use station_config::Station;
+use outside_traits::{Failed, Outside};
+use station_values::Station;
 
 // Opens the logs of the radios, until one fails.
 fn open_logs<O: Outside>(

@@ -1,11 +1,11 @@
 //! Gives back the logs and links of a station.
 ghost use Rattle.std.specs.Prelude.{◌≡◌, map};
 ghost use Rattle.std.specs.Option.{option_to_list};
-ghost use Rattle.feed_link.specs.ManyOut.{AreOut, GivesAllBack};
+ghost use Rattle.outside_traits.specs.ManyOut.{AreOut, GivesAllBack};
 ghost use Rattle.station_gear.specs.Gears.{log_states, link_states, states_of, numbers_of};
 
 use crate::Gear;
-use feed_link::Outside;
+use outside_traits::Outside;
 
 // Gives back logs, in order.
 fn give_back_logs<O: Outside>(outside: &mut O, logs: Vec<O::Log>)

@@ -11,7 +11,7 @@ use Rattle.packet_auth.specs.Keys.{AreApart}
 use Rattle.station_reader.specs.Faults.{counts_of, counts_of_others, is_bad, is_missing, is_wrong, plan_radios}
 use Rattle.station_reader.specs.Forms.{Text, has_form, is_secret, is_visible, number_at, read_or, secret_in, tables_at, whole_in, whole_of}
 use Rattle.station_reader.specs.Rows.{delay_row, id_row, radio_of, radio_row, secret_row}
-use Rattle.station_config.specs.Station.{AreWithin, IsStation, RadioFields, StationFields, feed_count, plan_count}
+use Rattle.station_values.specs.Station.{AreWithin, IsStation, RadioFields, StationFields, feed_count, plan_count}
 use Rattle.station_reader.specs.Values.{station_of}
 use Rattle.toml.specs.Data.{get_member}
 use Rattle.tick_units.proofs.PlanLaws.{each}

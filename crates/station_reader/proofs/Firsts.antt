@@ -49,9 +49,9 @@ pub empty_map : {X Y : Type 0} (f : X → Y) (xs : List X) (ys : List Y) → map
 empty_map f [] ys e = refl
 empty_map f (x ∷ xs) ys e = absurd (true≢false (ap is_none (ap (λ zs. slice_get zs 0) (sym e))))
 
-pub empty_front : {X : Type 0} (xs ys : List X) → xs ++ ys ≡ [] → xs ≡ []
-empty_front [] ys e = refl
-empty_front (x ∷ xs) ys e = absurd (true≢false (ap is_none (ap (λ zs. slice_get zs 0) (sym e))))
+pub empty_prefix : {X : Type 0} (xs ys : List X) → xs ++ ys ≡ [] → xs ≡ []
+empty_prefix [] ys e = refl
+empty_prefix (x ∷ xs) ys e = absurd (true≢false (ap is_none (ap (λ zs. slice_get zs 0) (sym e))))
 
 pub empty_back : {X : Type 0} (xs ys : List X) → xs ++ ys ≡ [] → ys ≡ []
 empty_back [] ys e = e

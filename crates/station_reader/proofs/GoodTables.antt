@@ -9,7 +9,7 @@ use Rattle.station_reader.specs.Forms.{Row, Text, number_at}
 use Rattle.station_reader.specs.Rows.{id_row, key_rows, secret_row}
 use Rattle.station_reader.specs.declared.keys.Part.{Part}
 use Rattle.station_reader.specs.declared.keys.Part.TheVariants as part
-use Rattle.station_reader.proofs.Firsts.{empty_back, empty_front, empty_map}
+use Rattle.station_reader.proofs.Firsts.{empty_back, empty_prefix, empty_map}
 
 not-empty : {X : Type 0} (x : X) (xs : List X) → x ∷ xs ≡ [] → false ≡ true
 not-empty x xs e = sym (ap (λ ys. is_some (slice_get ys 0)) e)
@@ -71,7 +71,7 @@ good_key : (taken : List ℕ) (m : Members) → missing_in key_rows m ≡ [] →
 good_key taken m missing bad =
     let (id_there, others) = no-missing m id_row (secret_row ∷ []) missing in
     let (secret_there, _none) = no-missing m secret_row [] others in
-    let (id_right, free) = good_id taken m (empty_front (bad_id taken m) (bad_in (secret_row ∷ []) m) bad) in
+    let (id_right, free) = good_id taken m (empty_prefix (bad_id taken m) (bad_in (secret_row ∷ []) m) bad) in
     let (secret_right, _rest) = no-bad m secret_row [] (empty_back (bad_id taken m) (bad_in (secret_row ∷ []) m) bad) in
     ((id_there, id_right, (secret_there, secret_right, tt)), free)
 

@@ -9,7 +9,7 @@ use Rattle.station_reader.specs.Faults.{bad_id, bad_in, bad_in_key, bad_in_keys,
 use Rattle.station_reader.specs.Forms.{number_at}
 use Rattle.station_reader.specs.Rows.{id_row, key_of, secret_row}
 use Rattle.station_reader.specs.declared.keys.Part.TheVariants as part
-use Rattle.station_reader.proofs.Firsts.{empty_back, empty_front, empty_map}
+use Rattle.station_reader.proofs.Firsts.{empty_back, empty_prefix, empty_map}
 use Rattle.station_reader.proofs.GoodTables.{good_id}
 
 apart_none : AreApart []
@@ -48,7 +48,7 @@ apart_after before (t ∷ ts) apart h =
     let more = before ++ key_of t.1 ∷ [] in
     let here = empty_map (key_in part.Key t.0) (bad_in_key taken t.1) (bad_in_keys (taken ++ number_at id_row t.1 ∷ []) ts) h in
     let later = empty_back (map (key_in part.Key t.0) (bad_in_key taken t.1)) (bad_in_keys (taken ++ number_at id_row t.1 ∷ []) ts) h in
-    let free = (good_id taken t.1 (empty_front (bad_id taken t.1) (bad_in (secret_row ∷ []) t.1) here)).1 in
+    let free = (good_id taken t.1 (empty_prefix (bad_id taken t.1) (bad_in (secret_row ∷ []) t.1) here)).1 in
     let ids : ids_of more ≡ taken ++ number_at id_row t.1 ∷ [] = map-append (λ key. key.id) before (key_of t.1 ∷ []) in
     let rest = apart_after more ts (apart_more before (key_of t.1) apart (taken-is before t.1 ∙ free)) (ap (λ xs. bad_in_keys xs ts) ids ∙ later) in
     subst AreApart (append_assoc before (key_of t.1 ∷ []) (map (λ x. key_of x.1) ts)) rest

@@ -10,7 +10,7 @@ use Rattle.station_reader.specs.Rows.{deny_row, key_row, link_row, radio_row, se
 use Rattle.station_reader.specs.declared.fault.StationFault.{StationFault}
 use Rattle.station_reader.specs.declared.fault.StationFault.TheVariants as fault
 use Rattle.station_reader.specs.declared.keys.Part.TheVariants as part
-use Rattle.station_reader.proofs.Firsts.{empty_back, empty_front, empty_map, first_map, first_some}
+use Rattle.station_reader.proofs.Firsts.{empty_back, empty_prefix, empty_map, first_map, first_some}
 use Rattle.station_reader.proofs.GoodTables.{all_good, all_good_keys}
 
 pub keys_at-two : (kind : List Row → Members → List Text) (xs ys : List Sheet) → keys_at kind (xs ++ ys) ≡ keys_at kind xs ++ keys_at kind ys
@@ -54,8 +54,8 @@ none_in kind m h =
     let items = sym (keys_of_items kind m) ∙ empty_back (map (λ k. k) (kind top_rows m)) (keys_at kind (item_sheets m)) h in
     let later = empty_back (keys_of_radios kind m) (keys_of_servers kind m ++ keys_of_links kind m) items in
     record {
-      radios = empty_front (keys_of_radios kind m) (keys_of_servers kind m ++ keys_of_links kind m) items;
-      servers = empty_front (keys_of_servers kind m) (keys_of_links kind m) later;
+      radios = empty_prefix (keys_of_radios kind m) (keys_of_servers kind m ++ keys_of_links kind m) items;
+      servers = empty_prefix (keys_of_servers kind m) (keys_of_links kind m) later;
       links = empty_back (keys_of_servers kind m) (keys_of_links kind m) later;
     }
 
@@ -63,20 +63,20 @@ none_in kind m h =
 pub good : (m : Members) → keys_at missing_in (sheets_of m) ≡ [] → bad_values m ≡ [] → IsGood m
 good m missing bad =
     let all = sym (keys_of_all missing_in m) ∙ missing in
-    let there = none_in missing_in m (empty_front (keys_at missing_in (top_sheet m ∷ item_sheets m)) (keys_at missing_in (client_sheets m)) all) in
+    let there = none_in missing_in m (empty_prefix (keys_at missing_in (top_sheet m ∷ item_sheets m)) (keys_at missing_in (client_sheets m)) all) in
     let clients = sym (keys_of_clients missing_in m) ∙ empty_back (keys_at missing_in (top_sheet m ∷ item_sheets m)) (keys_at missing_in (client_sheets m)) all in
-    let right = none_in bad_in m (empty_front (keys_at bad_in (top_sheet m ∷ item_sheets m)) (bad_of_clients m) bad) in
+    let right = none_in bad_in m (empty_prefix (keys_at bad_in (top_sheet m ∷ item_sheets m)) (bad_of_clients m) bad) in
     let of_clients = empty_back (keys_at bad_in (top_sheet m ∷ item_sheets m)) (bad_of_clients m) bad in
     record {
       radios = all_good part.Radio (tables_at radio_row m) there.radios right.radios;
       servers = all_good part.Server (tables_at server_row m) there.servers right.servers;
       links = all_good part.Link (tables_at link_row m) there.links right.links;
-      keys = all_good_keys [] (tables_at key_row m) (empty_front (keys_of_keys missing_in m) (keys_of_nets missing_in m) clients) (empty_front (bad_in_keys [] (tables_at key_row m)) (keys_of_nets bad_in m) of_clients);
+      keys = all_good_keys [] (tables_at key_row m) (empty_prefix (keys_of_keys missing_in m) (keys_of_nets missing_in m) clients) (empty_prefix (bad_in_keys [] (tables_at key_row m)) (keys_of_nets bad_in m) of_clients);
       deny = all_good part.Deny (tables_at deny_row m) (empty_back (keys_of_keys missing_in m) (keys_of_nets missing_in m) clients) (empty_back (bad_in_keys [] (tables_at key_row m)) (keys_of_nets bad_in m) of_clients);
     }
 
 pub no_bad_key : (m : Members) → bad_values m ≡ [] → bad_in_keys [] (tables_at key_row m) ≡ []
-no_bad_key m bad = empty_front (bad_in_keys [] (tables_at key_row m)) (keys_of_nets bad_in m) (empty_back (keys_at bad_in (top_sheet m ∷ item_sheets m)) (bad_of_clients m) bad)
+no_bad_key m bad = empty_prefix (bad_in_keys [] (tables_at key_row m)) (keys_of_nets bad_in m) (empty_back (keys_at bad_in (top_sheet m ∷ item_sheets m)) (bad_of_clients m) bad)
 
 -- ---- the faults of a document
 

@@ -8,7 +8,7 @@ use Rattle.toml.specs.Data.{Data, Members, get_member, member, no_members}
 use Rattle.toml.specs.Parse.{parse_document}
 use Rattle.station_reader.specs.Forms.{Text, Row, has_form, is_required, number_at, tables_at}
 use Rattle.station_reader.specs.Rows.{top_rows, radio_rows, server_rows, link_rows, key_rows, deny_rows, link_row, radio_row, server_row, key_row, deny_row, id_row, secret_row}
-use Rattle.station_config.specs.Station.{RadioFields, StationFields, feed_count, plan_count}
+use Rattle.station_values.specs.Station.{RadioFields, StationFields, feed_count, plan_count}
 use Rattle.station_reader.specs.Values.{station_of}
 use Rattle.station_reader.specs.declared.fault.StationFault.{StationFault}
 use Rattle.station_reader.specs.declared.fault.StationFault.TheVariants as fault

@@ -4,8 +4,8 @@ use Rattle.tick_units.specs.declared.marks.Plan.TheVariants.{Dcf}
 use Rattle.toml.specs.Data.{Members, get_member}
 use Rattle.packet_auth.specs.Keys.{KeyFields}
 use Rattle.kiss_gate.specs.declared.nets.Net.{Net}
-use Rattle.station_config.specs.Station.{RadioFields, ServerFields}
-use Rattle.station_config.specs.declared.station.TopNumbers.{TopNumbers}
+use Rattle.station_values.specs.Station.{RadioFields, ServerFields}
+use Rattle.station_values.specs.declared.station.TopNumbers.{TopNumbers}
 use Rattle.station_reader.specs.Forms.{Row, address_in, net_in, number_at, plan_in, read_or, secret_in, some_text_in, text_in}
 use Rattle.station_reader.specs.declared.form.Form.TheVariants as form
 use Rattle.station_reader.specs.declared.form.Need.TheVariants as need

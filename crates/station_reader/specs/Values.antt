@@ -1,7 +1,7 @@
 -- The station that a document without faults says: its values, and the defaults of the keys that are not there.
 use Rattle.std.specs.Prelude.{map}
 use Rattle.toml.specs.Data.{Members}
-use Rattle.station_config.specs.Station.{StationFields}
+use Rattle.station_values.specs.Station.{StationFields}
 use Rattle.station_reader.specs.Forms.{number_at, tables_at}
 use Rattle.station_reader.specs.Rows.{deny_row, key_of, key_row, leap_file_of, link_row, net_of, port_row, radio_of, radio_row, server_of, server_row, top_of}
 

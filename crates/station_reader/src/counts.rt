@@ -1,12 +1,12 @@
 //! How many rows a station has, and how many it may have.
 ghost use Rattle.std.specs.Prelude.{◌≡◌, find, map, nat_lt, option_map};
-ghost use Rattle.station_config.specs.Station.{feed_count, is_same_plan, plan_count};
+ghost use Rattle.station_values.specs.Station.{feed_count, is_same_plan, plan_count};
 ghost use Rattle.station_reader.specs.Faults.{counts_of, plan_radios};
 ghost use Rattle.station_reader.specs.Finding.{count_seen};
-ghost use Rattle.station_config.specs.KeptStation.{parts_fields, radio_kept};
+ghost use Rattle.station_values.specs.KeptStation.{parts_fields, radio_kept};
 
 use crate::rows::{DENY_ROW, KEY_ROW, LINK_ROW, RADIO_ROW};
-use station_config::{Parts, Radio};
+use station_values::{Parts, Radio};
 use tick_units::Plan;
 
 // The radios that a plan may have.

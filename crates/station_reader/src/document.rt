@@ -5,8 +5,8 @@ ghost use Rattle.packet_auth.specs.Keys.{AreApart};
 ghost use Rattle.station_reader.specs.Values.{station_of};
 ghost use Rattle.station_reader.specs.Faults.{faults_of};
 ghost use Rattle.station_reader.specs.Finding.{IsFirstKeyFault, IsGood};
-ghost use Rattle.station_config.specs.KeptStation.{parts_fields};
-ghost use Rattle.station_config.specs.Station.{AreWithin};
+ghost use Rattle.station_values.specs.KeptStation.{parts_fields};
+ghost use Rattle.station_values.specs.Station.{AreWithin};
 
 use crate::arrays::first_at;
 use crate::counts::excess;
@@ -15,7 +15,7 @@ use crate::items::{KeyFault, read_array};
 use crate::keys::Check;
 use crate::rows::{DENY_ROW, KEY_ROW, LINK_ROW, RADIO_ROW, SERVER_ROW, top_numbers};
 use crate::values::leap_file;
-use station_config::{Parts, Station};
+use station_values::{Parts, Station};
 use std::alloc::{AllocError, Global};
 use toml::Table;
 

@@ -1,11 +1,11 @@
 //! Reads the nets that a station denies as CIDR writes them (RFC 4632).
 ghost use Rattle.std.specs.Prelude.{◌≡◌, ◌≤◌, IfSome, option_map};
-ghost use Rattle.station_config.specs.KeptStation.{net_kept};
+ghost use Rattle.station_values.specs.KeptStation.{net_kept};
 ghost use Rattle.station_reader.specs.Forms.{after_slash, before_slash, cidr_of, net_by, prefix_of};
 
 use crate::address::address;
 use decimal_text::whole_number;
-use station_config::DeniedNet;
+use station_values::DeniedNet;
 
 // The number of bits of an IPv4 address.
 const BITS: u64 = 32;

@@ -9,7 +9,7 @@ use crate::fault::{KeyText, StationFault};
 use crate::items::KeyFault;
 use crate::keys::{KeyPath, Part};
 use crate::rows::{DENY_ROW, KEY_ROW, LINK_ROW, RADIO_ROW, SERVER_ROW};
-use station_config::Station;
+use station_values::Station;
 use std::alloc::{AllocError, Global};
 
 // The key of a table's array. The top table is in none.

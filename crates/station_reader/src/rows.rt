@@ -1,6 +1,6 @@
 //! The keys of a station file: one table for each kind of table in it, by the bytes of their keys, and what is made of such a table.
 ghost use Rattle.std.specs.Prelude.{◌≡◌, map};
-ghost use Rattle.station_config.specs.Station.{AreWithin};
+ghost use Rattle.station_values.specs.Station.{AreWithin};
 ghost use Rattle.station_reader.specs.Faults.{rows_of};
 ghost use Rattle.station_reader.specs.Finding.{row_seen};
 ghost use Rattle.station_reader.specs.Rows.{top_of};
@@ -10,8 +10,8 @@ use crate::form::{Form, Need, Row};
 use crate::items::Item;
 use crate::keys::Part;
 use crate::values::{cidr, ip, number, plan, secret, text};
-use feed_link::Address;
-use station_config::{DeniedNet, LinkRow, Radio, ServerRow, SharedKey, TopNumbers};
+use outside_traits::Address;
+use station_values::{DeniedNet, LinkRow, Radio, ServerRow, SharedKey, TopNumbers};
 use std::alloc::{AllocError, Global};
 use tick_units::Local;
 use toml::Table;
@@ -195,8 +195,8 @@ pub fn top_numbers(table: &Table) -> TopNumbers
 }
 
 impl Item for Radio {
-    ghost use Rattle.station_config.specs.KeptStation.{radio_kept};
-    ghost use Rattle.station_config.specs.Station.{RadioFields};
+    ghost use Rattle.station_values.specs.KeptStation.{radio_kept};
+    ghost use Rattle.station_values.specs.Station.{RadioFields};
     ghost use Rattle.station_reader.specs.Rows.{radio_of, radio_rows};
 
     ghost rows = { radio_rows };
@@ -217,8 +217,8 @@ impl Item for Radio {
 }
 
 impl Item for ServerRow {
-    ghost use Rattle.station_config.specs.KeptStation.{server_fields};
-    ghost use Rattle.station_config.specs.Station.{ServerFields};
+    ghost use Rattle.station_values.specs.KeptStation.{server_fields};
+    ghost use Rattle.station_values.specs.Station.{ServerFields};
     ghost use Rattle.station_reader.specs.Rows.{server_of, server_rows};
 
     ghost rows = { server_rows };
@@ -262,7 +262,7 @@ impl Item for LinkRow {
 
 impl Item for SharedKey {
     ghost use Rattle.packet_auth.specs.Keys.{KeyFields};
-    ghost use Rattle.station_config.specs.KeptStation.{key_kept};
+    ghost use Rattle.station_values.specs.KeptStation.{key_kept};
     ghost use Rattle.station_reader.specs.Rows.{key_of, key_rows};
 
     ghost rows = { key_rows };
@@ -283,7 +283,7 @@ impl Item for SharedKey {
 
 impl Item for DeniedNet {
     ghost use Rattle.kiss_gate.specs.declared.nets.Net.{Net};
-    ghost use Rattle.station_config.specs.KeptStation.{net_kept};
+    ghost use Rattle.station_values.specs.KeptStation.{net_kept};
     ghost use Rattle.station_reader.specs.Rows.{deny_rows, net_of};
 
     ghost rows = { deny_rows };

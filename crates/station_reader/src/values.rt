@@ -10,13 +10,13 @@ ghost use Rattle.toml.specs.View.{array_view, items_view, table_view, view};
 ghost use Rattle.station_reader.specs.Forms.{address_in, has_form, is_secret, is_visible, net_in, number_at, plan_in, preset_of, read_or, secret_in, tables_at, tables_from, tables_in, text_in, whole_in, whole_of};
 ghost use Rattle.station_reader.specs.Rows.{address_row, leap_file_of, net_of, plan_row, secret_row};
 ghost use Rattle.station_reader.specs.Finding.{least_of, most_of, row_seen};
-ghost use Rattle.station_config.specs.KeptStation.{net_kept};
+ghost use Rattle.station_values.specs.KeptStation.{net_kept};
 
 use crate::address::address;
 use crate::form::{Form, Need, Row};
 use crate::nets::denied_net;
 use crate::rows::{ADDRESS_ROW, LEAP_FILE_ROW, NET_ROW, PLAN_ROW, SECRET_ROW};
-use station_config::DeniedNet;
+use station_values::DeniedNet;
 use tick_units::Plan;
 use toml::value::Array;
 use toml::{Table, Value};

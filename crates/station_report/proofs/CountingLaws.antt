@@ -11,7 +11,7 @@ use Rattle.journal_entry.specs.declared.entry.What.TheVariants.{Heard, Sample, D
 use Rattle.page_cell.specs.Claims.{of_feed}
 use Rattle.tick_units.specs.declared.verdicts.Kind.{Kind}
 use Rattle.station_report.specs.DrillScaffold.{Counted, CountsFound, CountsOne, CountsUpTo, answer_found, answer_in, answer_of}
-use Rattle.station_report.specs.Drilling.{is_differing, is_lone, is_refused, is_verdict, times, was_heard}
+use Rattle.station_report.specs.Drilling.{is_differing, is_lone, is_refused, is_verdict, times, was_received}
 use Rattle.station_report.specs.declared.drill_text.Counts.{Counts}
 
 -- how much an answer adds to a count
@@ -19,16 +19,16 @@ abbrev pub adds : (Kind → Bool) → Option Kind → ℕ
 adds test None = 0
 adds test (Some kind) = if test kind then 1 else 0
 
-of_what : (test : Kind → Bool) (what : What) → (if was_heard test what then 1 else 0) ≡ adds test (answer_of what)
+of_what : (test : Kind → Bool) (what : What) → (if was_received test what then 1 else 0) ≡ adds test (answer_of what)
 of_what test (Heard kind) = refl
 of_what test (Sample sample) = refl
 of_what test (Declined code) = refl
 of_what test (Notice leap_at) = refl
 
 one_time : (test : Kind → Bool) (e : Entry) → times test (e ∷ []) ≡ adds test (answer_of e.what)
-one_time test e = either (was_heard test e.what) refl
+one_time test e = either (was_received test e.what) refl
   where
-    either : (b : Bool) → was_heard test e.what ≡ b → times test (e ∷ []) ≡ adds test (answer_of e.what)
+    either : (b : Bool) → was_received test e.what ≡ b → times test (e ∷ []) ≡ adds test (answer_of e.what)
     either true is = rw is (ap (λ (b : Bool). if b then 1 else 0) (sym is) ∙ of_what test e.what)
     either false is = rw is (ap (λ (b : Bool). if b then 1 else 0) (sym is) ∙ of_what test e.what)
 
@@ -42,7 +42,7 @@ of_one test feed e = elim (cases_Bool (e.feed == feed)) [
 times_more : (test : Kind → Bool) (feed : ℕ) (entries : List Entry) (e : Entry) → times test (of_feed feed (entries ++ e ∷ [])) ≡ times test (of_feed feed entries) + adds test (answer_in feed e)
 times_more test feed entries e =
     ap (times test) (filter-append (λ (x : Entry). x.feed == feed) entries (e ∷ []))
-    ∙ sum_by-append (λ (x : Entry). if was_heard test x.what then 1 else 0) (of_feed feed entries) (of_feed feed (e ∷ []))
+    ∙ sum_by-append (λ (x : Entry). if was_received test x.what then 1 else 0) (of_feed feed entries) (of_feed feed (e ∷ []))
     ∙ ap (λ n. times test (of_feed feed entries) + n) (of_one test feed e)
 
 counted_none : (feed : ℕ) (entries : List Entry) (e : Entry) (c : Counts) → answer_in feed e ≡ None → Counted (of_feed feed entries) c → Counted (of_feed feed (entries ++ e ∷ [])) c
@@ -80,7 +80,7 @@ feed_short feed (e ∷ entries) = elim (cases_Bool (e.feed == feed)) [
 -- no count is greater than there are entries
 counted_up : (feed : ℕ) (entries : List Entry) (c : Counts) (most : ℕ) → Counted (of_feed feed entries) c → length entries ≤ most → CountsUpTo most c
 counted_up feed entries c most h le =
-    let each : (test : Kind → Bool) → times test (of_feed feed entries) ≤ length (of_feed feed entries) = λ test. count_by-le-length (λ (x : Entry). was_heard test x.what) (of_feed feed entries) in
+    let each : (test : Kind → Bool) → times test (of_feed feed entries) ≤ length (of_feed feed entries) = λ test. count_by-le-length (λ (x : Entry). was_received test x.what) (of_feed feed entries) in
     let few = feed_short feed entries in
     record {
       verdict = omega (arith, le, few, h.verdict, each is_verdict);

@@ -7,11 +7,11 @@ use Rattle.std.proofs.lemmas.Bool.{le-ltb, ne_eqb}
 use Rattle.std.proofs.lemmas.Bool.Decides.{nat_tests}
 use Rattle.std.proofs.lemmas.List.{append-nil, length-append, length-map}
 use Rattle.std.proofs.lemmas.List.Elements.{All-append, All-cons, All-head, All-nil, All-tail, filter-append}
-use Rattle.feed_link.specs.Faults.{Rose}
+use Rattle.outside_traits.specs.Faults.{Rose}
 use Rattle.memory_links.specs.Memory.{sure_state}
-use Rattle.feed_link.specs.Openings.{OutsideState}
-use Rattle.feed_link.specs.Openings.State.{OfLog}
-use Rattle.feed_link.specs.Told.{LinkState, SinkState, SourceState}
+use Rattle.outside_traits.specs.Openings.{OutsideState}
+use Rattle.outside_traits.specs.Openings.State.{OfLog}
+use Rattle.outside_traits.specs.States.{LinkState, SinkState, SourceState}
 use Rattle.memory_links.specs.declared.sure_source.SureSource.{SureSource}
 use Rattle.file_reader.specs.declared.log_end.LogEnd.TheVariants as log
 use Rattle.journal_entry.specs.declared.entry.Entry.{Entry}
@@ -20,7 +20,7 @@ use Rattle.journal_orders.proofs.OrderLaws.{page-kept}
 use Rattle.log_decoder.specs.Due.{entry_of}
 use Rattle.page_cell.specs.Claims.{of_feed}
 use Rattle.drill_day.specs.Day.{day_due, day_log, day_logs, source_of}
-use Rattle.station_config.specs.Station.{RadioFields, one_of_each, settings_of}
+use Rattle.station_values.specs.Station.{RadioFields, one_of_each, settings_of}
 use Rattle.station_gear.specs.Gears.{log_states}
 use Rattle.station_gear.specs.declared.gear.Gear.{Gear}
 use Rattle.system_fold.specs.Page.{page_of}
@@ -35,7 +35,7 @@ use Rattle.file_commands.specs.Decoding.{IsGoodLog}
 use Rattle.station_report.specs.DrillScaffold.{FinishesDrill, HasDayGear, HasDrilled, feed_lines}
 use Rattle.station_report.specs.Drilling.{Drills, day_journal, day_run, drill_text, feed_line, whole_run}
 use Rattle.file_commands.specs.Endings.{status_line, status_of}
-use Rattle.station_report.specs.Headline.{HasDueEntries, IsTold, LeapRun, LinkRun, LogRun, PollRun, StationRun, due_in_all, dues, each_cause, full_cause, leap_dues, link_cause, log_cause, poll_cause, radio_dues, server_dues}
+use Rattle.station_report.specs.Headline.{HasDueEntries, IsReported, LeapRun, LinkRun, LogRun, PollRun, StationRun, due_in_all, dues, each_cause, full_cause, leap_dues, link_cause, log_cause, poll_cause, radio_dues, server_dues}
 use Rattle.station_report.specs.Serving.{IsGoodLogRun}
 use Rattle.file_commands.specs.Text.{page_text}
 use Rattle.file_commands.specs.Effects.{effect_of}
@@ -74,8 +74,8 @@ tail_of x y xs ys e = cc
 good_one : (text : List ℕ) (back : SourceState) (source : SureSource) → bad_at_end text ≡ None → length text ≤ 3000000 → back ≡ sure_state source → IsGoodLog (source_of text) back
 good_one text back source good short is = record {
   text = text;
-  told = refl;
-  tells = subst (λ s. IsSome s.left) (sym is) refl;
+  reported = refl;
+  reports = subst (λ s. IsSome s.left) (sym is) refl;
   no_fault = λ rose. none (subst (λ s. Rose 0 s.faults) is rose);
   lines = good;
   most = omega (arith, short);
@@ -183,17 +183,17 @@ module _ {T : Type 0} (log_opening : SureSource → ℕ) (state : T → LinkStat
     whole = λ le feed due at. ran.whole (subst (λ (l : List (List Entry)). sum_by (λ (d : List Entry). length d) l ≤ orders.limit) (sym dues_same) le) feed due (subst (λ (l : List (List Entry)). slice_get l feed ≡ Some due) (sym dues_same) at);
     beginning = λ feed due at. ran.beginning feed due (subst (λ (l : List (List Entry)). slice_get l feed ≡ Some due) (sym dues_same) at);
     count = ran.count ∙ ap (λ (l : List (List Entry)). min (sum_by (λ (d : List Entry). length d) l) orders.limit) dues_same;
-    lawful = ran.lawful;
+    valid = ran.valid;
   }
 
   causes_are : causes_left orders.limit done ≡ option_to_list (full_cause orders.limit (nat_lt orders.limit (due_in_all one_of_each (day_run seed done.journal.entries))))
   causes_are =
-      let behind : List Ending = option_to_list (full_cause orders.limit (nat_lt orders.limit (due_in_all one_of_each station_run))) in
+      let later : List Ending = option_to_list (full_cause orders.limit (nat_lt orders.limit (due_in_all one_of_each station_run))) in
       serving.causes_same sure_state log_opening state opening one_of_each orders gear logs_open list_open servers_open links_open done last left
-      ∙ ap (λ l. l ++ (each_cause (λ feed (poll : PollRun). poll_cause feed poll.end) 3 station_run.servers ++ (list_causes station_run.leap ++ (each_cause (λ number (link : LinkRun). link_cause number link.end) 0 station_run.links ++ behind)))) read_whole.0
-      ∙ ap (λ (l : List PollRun). each_cause (λ feed (poll : PollRun). poll_cause feed poll.end) 3 l ++ (list_causes station_run.leap ++ (each_cause (λ number (link : LinkRun). link_cause number link.end) 0 station_run.links ++ behind))) no_polls
-      ∙ ap (λ o. list_causes o ++ (each_cause (λ number (link : LinkRun). link_cause number link.end) 0 station_run.links ++ behind)) no_list
-      ∙ ap (λ (l : List LinkRun). each_cause (λ number (link : LinkRun). link_cause number link.end) 0 l ++ behind) no_clients
+      ∙ ap (λ l. l ++ (each_cause (λ feed (poll : PollRun). poll_cause feed poll.end) 3 station_run.servers ++ (list_causes station_run.leap ++ (each_cause (λ number (link : LinkRun). link_cause number link.end) 0 station_run.links ++ later)))) read_whole.0
+      ∙ ap (λ (l : List PollRun). each_cause (λ feed (poll : PollRun). poll_cause feed poll.end) 3 l ++ (list_causes station_run.leap ++ (each_cause (λ number (link : LinkRun). link_cause number link.end) 0 station_run.links ++ later))) no_polls
+      ∙ ap (λ o. list_causes o ++ (each_cause (λ number (link : LinkRun). link_cause number link.end) 0 station_run.links ++ later)) no_list
+      ∙ ap (λ (l : List LinkRun). each_cause (λ number (link : LinkRun). link_cause number link.end) 0 l ++ later) no_clients
       ∙ ap (λ (l : List (List Entry)). option_to_list (full_cause orders.limit (nat_lt orders.limit (sum_by (λ (d : List Entry). length d) l)))) dues_same
 
   pub drilled : HasDrilled seed orders.limit done
@@ -253,7 +253,7 @@ module _ (seed limit : ℕ) (done : Done) (h : HasDrilled seed limit done) (room
   past_all : (feed : ℕ) (entries : List Entry) → 3 ≤ feed → All (IsKept 3) entries → of_feed feed entries ≡ []
   past_all feed [] far all = refl
   past_all feed (e ∷ entries) far all =
-      let one = (All-head (IsKept 3) e entries all).lawful.feed in
+      let one = (All-head (IsKept 3) e entries all).valid.feed in
       let other : (e.feed == feed) ≡ false = ne_eqb e.feed feed (omega (arith, far, one)) in
       rw other (past_all feed entries far (All-tail (IsKept 3) e entries all))
 
@@ -270,7 +270,7 @@ module _ (seed limit : ℕ) (done : Done) (h : HasDrilled seed limit done) (room
   keeps (suc (suc zero)) = day_is 2 [] [] (day_due 2 Wwvb seed) (feed_other 2 0 (first_heard seed) refl) (feed_other 2 1 (second_heard seed) refl) (feed_same 2 (third_heard seed)) ∙ sym (h.entries.whole fits 2 (day_due 2 Wwvb seed) refl)
   keeps (suc (suc (suc more))) =
       let is : 3 + more ≡ suc (suc (suc more)) = omega arith in
-      subst (λ n. of_feed n (day_journal seed) ≡ of_feed n journal) is (past_day more ∙ sym (past_all (3 + more) journal (omega arith) h.entries.lawful))
+      subst (λ n. of_feed n (day_journal seed) ≡ of_feed n journal) is (past_day more ∙ sym (past_all (3 + more) journal (omega arith) h.entries.valid))
 
   no_leap : NamesNoLeap (day_journal seed)
   no_leap = All-append Named _ _ (h.days 0 Dcf).no_leap (All-append Named _ _ (h.days 1 Msf).no_leap (All-append Named _ _ (h.days 2 Wwvb).no_leap (All-nil Named)))
@@ -288,44 +288,44 @@ module _ (seed limit : ℕ) (done : Done) (h : HasDrilled seed limit done) (room
 
 -- ---- the status
 
-told_none : (due : Ending) → IsTold [] due → due ≡ Whole
-told_none due (inl told) = told.1
-told_none due (inr first) =
+reported_none : (due : Ending) → IsReported [] due → due ≡ Whole
+reported_none due (inl reported) = reported.1
+reported_none due (inr first) =
     let size = ap (λ (l : List Ending). length l) first.is in
-    absurd (omega (arith, size, length-append first.before (due ∷ first.behind)))
+    absurd (omega (arith, size, length-append first.before (due ∷ first.later)))
 
-told_one : (cause due : Ending) → IsTold (cause ∷ []) due → due ≡ cause
-told_one cause due (inl told) = absurd cc
-told_one cause due (inr first) = by first.before first.is
+reported_one : (cause due : Ending) → IsReported (cause ∷ []) due → due ≡ cause
+reported_one cause due (inl reported) = absurd cc
+reported_one cause due (inr first) = by first.before first.is
   where
-    by : (before : List Ending) → cause ∷ [] ≡ before ++ due ∷ first.behind → due ≡ cause
-    by [] is = sym (head_of cause due [] first.behind is)
+    by : (before : List Ending) → cause ∷ [] ≡ before ++ due ∷ first.later → due ≡ cause
+    by [] is = sym (head_of cause due [] first.later is)
     by (other ∷ before) is =
         let size = ap (λ (l : List Ending). length l) is in
-        absurd (omega (arith, size, length-append before (due ∷ first.behind)))
+        absurd (omega (arith, size, length-append before (due ∷ first.later)))
 
-told_full : (limit : ℕ) (full : Bool) (due : Ending) → IsTold (option_to_list (full_cause limit full)) due → due ≡ (if full then Full limit else Whole)
-told_full limit true due told = told_one (Full limit) due told
-told_full limit false due told = told_none due told
+reported_full : (limit : ℕ) (full : Bool) (due : Ending) → IsReported (option_to_list (full_cause limit full)) due → due ≡ (if full then Full limit else Whole)
+reported_full limit true due reported = reported_one (Full limit) due reported
+reported_full limit false due reported = reported_none due reported
 
 pub drills : (seed limit : ℕ) (done : Done) (outside outside_now : OutsideState) (out out_now : SinkState) (result : Status) → outside_now ≡ outside → HasDrilled seed limit done → FinishesDrill limit done out out_now result →
     Drills seed limit (effect_of outside outside_now out out_now result)
-drills seed limit done outside outside_now out out_now result unchanged h told =
+drills seed limit done outside outside_now out out_now result unchanged h reported =
     let journal = done.journal.entries in
     let total = due_in_all one_of_each (day_run seed journal) in
-    let cause : told.due ≡ (if nat_lt limit total then Full limit else Whole) = told_full limit (nat_lt limit total) told.due (subst (λ all. IsTold all told.due) h.causes_are told.cause) in
-    let text : Answers (status_of told.due) result out out_now (drill_text journal ++ status_line told.due) =
-    subst (λ s. Answers (status_of told.due) result out out_now ((feed_lines journal ++ page_text (page_of s journal)) ++ status_line told.due)) h.settings_are told.written in
+    let cause : reported.due ≡ (if nat_lt limit total then Full limit else Whole) = reported_full limit (nat_lt limit total) reported.due (subst (λ all. IsReported all reported.due) h.causes_are reported.cause) in
+    let text : Answers (status_of reported.due) result out out_now (drill_text journal ++ status_line reported.due) =
+    subst (λ s. Answers (status_of reported.due) result out out_now ((feed_lines journal ++ page_text (page_of s journal)) ++ status_line reported.due)) h.settings_are reported.written in
     record {
       unchanged = unchanged;
       journal = journal;
       entries = h.entries;
-      due = told.due;
+      due = reported.due;
       cause = cause;
       written = text;
       same = λ room.
           let less : nat_lt limit total ≡ false = le-ltb limit total (fits seed limit done h room) in
-          let whole : told.due ≡ Whole = cause ∙ ap (λ (b : Bool). if b then Full limit else Whole) less in
+          let whole : reported.due ≡ Whole = cause ∙ ap (λ (b : Bool). if b then Full limit else Whole) less in
           subst (λ t. Answers (status_of Whole) result out out_now (t ++ status_line Whole)) (sym (same_text seed limit done h room))
           (subst (λ e. Answers (status_of e) result out out_now (drill_text journal ++ status_line e)) whole text);
     }

@@ -6,11 +6,11 @@ use Rattle.std.specs.Option.{option_to_list}
 use Rattle.std.proofs.lemmas.Bool.Decides.{nat_tests}
 use Rattle.std.proofs.lemmas.List.{append-nil, append_cancel_left, length-map}
 use Rattle.std.proofs.lemmas.List.Elements.{All-head, All-tail}
-use Rattle.feed_link.specs.Faults.{Rose}
-use Rattle.feed_link.specs.Openings.{Opening, State, Visit, Wanted, failed, log_visit, visited}
-use Rattle.feed_link.specs.Openings.State.{OfLog, OfLink}
-use Rattle.feed_link.specs.Openings.Wanted.{LogOf}
-use Rattle.feed_link.specs.Told.{LinkState, NetEvent, SinkState, SourceState, Adds}
+use Rattle.outside_traits.specs.Faults.{Rose}
+use Rattle.outside_traits.specs.Openings.{Opening, State, Visit, Wanted, failed, log_visit, visited}
+use Rattle.outside_traits.specs.Openings.State.{OfLog, OfLink}
+use Rattle.outside_traits.specs.Openings.Wanted.{LogOf}
+use Rattle.outside_traits.specs.States.{LinkState, NetEvent, SinkState, SourceState, Adds}
 use Rattle.feed_workers.specs.Leaps.{EndsLeap, due_leap, most_of_a_list}
 use Rattle.feed_workers.specs.Logs.{EndsLog}
 use Rattle.log_decoder.specs.Decoding.{most_of_a_log}
@@ -28,14 +28,14 @@ use Rattle.journal_entry.specs.declared.entry.Entry.{Entry}
 use Rattle.responder.specs.declared.served.End.{End}
 use Rattle.responder.specs.declared.served.End.TheVariants.{Count, LinkEnd, LinkFault}
 use Rattle.station_reader.specs.Faults.{Fault, Says, IsFirst, faults_of, Refuses as RefusesStation}
-use Rattle.station_config.specs.Station.{RadioFields, ServerFields, StationFields, leap_feed}
+use Rattle.station_values.specs.Station.{RadioFields, ServerFields, StationFields, leap_feed}
 use Rattle.station_reader.specs.declared.fault.StationFault.{StationFault}
 use Rattle.station_reader.specs.declared.fault.StationFault.TheVariants as fault
 use Rattle.crew_work.specs.Lists.{Pairs}
 use Rattle.crew_work.proofs.ListLaws.{length-is-some}
 use Rattle.file_commands.specs.Decoding.{IsGoodLog}
 use Rattle.file_commands.specs.Endings.{status_of}
-use Rattle.station_report.specs.Headline.{EndsPhases, IsAnswered, IsPolled, IsTold, LeapRun, LinkRun, LogRun, PollRun, StationRun, causes, due_in_all, dues, each_cause, full_cause, leap_dues, link_cause, log_cause, poll_cause, radio_dues, server_dues}
+use Rattle.station_report.specs.Headline.{EndsPhases, IsAnswered, IsPolled, IsReported, LeapRun, LinkRun, LogRun, PollRun, StationRun, causes, due_in_all, dues, each_cause, full_cause, leap_dues, link_cause, log_cause, poll_cause, radio_dues, server_dues}
 use Rattle.crew_work.specs.declared.work.Orders.{Orders}
 use Rattle.station_report.specs.Serving.{EndsUnserved, HasGoodStation, IsGoodLeapRun, IsGoodLink, IsGoodList, IsGoodLogRun, RunsServe, ServesStation, back_in, opened_in}
 use Rattle.file_commands.specs.StationFile.{EndsAtStation, IsObstacle, IsStation, line_at, most_of_a_station, status_at}
@@ -46,10 +46,10 @@ use Rattle.file_commands.specs.declared.ending.Ending.TheVariants as ending
 use Rattle.file_commands.specs.declared.ending.status.Status.{Status}
 use Rattle.file_commands.specs.declared.ending.status.Status.TheVariants.{Done, Memory}
 use Rattle.file_commands.specs.declared.station_file.obstacle.Obstacle.{Obstacle}
-use Rattle.file_commands.proofs.GoodLogLaws.{front_by, front_of, good_reach, none_left, rose_by_one, whole_text}
+use Rattle.file_commands.proofs.GoodLogLaws.{prefix_by, prefix_of, good_reach, none_left, rose_by_one, whole_text}
 use Rattle.file_commands.proofs.LineFileLaws.{read_station}
 use Rattle.file_commands.proofs.OpeningLaws.{first_of, not_failed, rest_of, same_more, same_states}
-use Rattle.file_commands.proofs.EndLaws.{front_of_whole}
+use Rattle.file_commands.proofs.EndLaws.{prefix_of_whole}
 use Rattle.station_report.proofs.RunOfLaws.{polled-length}
 
 -- where no write failed, the status is the one that is due
@@ -99,14 +99,14 @@ first_state s t ss ts e = cc
 rest_states : (s t : State) (ss ts : List State) → s ∷ ss ≡ t ∷ ts → ss ≡ ts
 rest_states s t ss ts e = cc
 
-split_at : {X : Type 0} (front back other_front other_back : List X) → length front ≡ length other_front → front ++ back ≡ other_front ++ other_back → (front ≡ other_front) × (back ≡ other_back)
+split_at : {X : Type 0} (prefix back other_prefix other_back : List X) → length prefix ≡ length other_prefix → prefix ++ back ≡ other_prefix ++ other_back → (prefix ≡ other_prefix) × (back ≡ other_back)
 split_at [] back [] other_back n e = (refl, e)
-split_at [] back (c ∷ other_front) other_back n e = absurd (omega (arith, n))
-split_at (a ∷ front) back [] other_back n e = absurd (omega (arith, n))
-split_at (a ∷ front) back (c ∷ other_front) other_back n e =
+split_at [] back (c ∷ other_prefix) other_back n e = absurd (omega (arith, n))
+split_at (a ∷ prefix) back [] other_back n e = absurd (omega (arith, n))
+split_at (a ∷ prefix) back (c ∷ other_prefix) other_back n e =
     let one : a ≡ c = ap (λ l. get_or l 0 a) e in
-    let rest = split_at front back other_front other_back (omega (arith, n)) (ap (λ l. drop 1 l) e) in
-    (ap (λ x. x ∷ front) one ∙ ap (λ l. c ∷ l) rest.0, rest.1)
+    let rest = split_at prefix back other_prefix other_back (omega (arith, n)) (ap (λ l. drop 1 l) e) in
+    (ap (λ x. x ∷ prefix) one ∙ ap (λ l. c ∷ l) rest.0, rest.1)
 
 -- how many logs are among them
 abbrev count_logs : List State → ℕ
@@ -144,11 +144,11 @@ logs_opened run =
 -- a log without a fault is read whole
 good_log : (opened back : SourceState) (good : IsGoodLog opened back) (bytes : List ℕ) (end : LogEnd) → EndsLog most_of_a_log opened back bytes end → (end ≡ log.Whole) × (good.text ≡ bytes)
 good_log opened back good bytes log.Whole h =
-    let front = front_by opened back good bytes file.Whole h.0 in
-    (refl, whole_text bytes h.0.extra front.0 good.text front.2 h.0.cause.0 (none_left back.left front.0 front.1 h.0.cause.1))
+    let prefix = prefix_by opened back good bytes file.Whole h.0 in
+    (refl, whole_text bytes h.0.extra prefix.0 good.text prefix.2 h.0.cause.0 (none_left back.left prefix.0 prefix.1 h.0.cause.1))
 good_log opened back good bytes (log.BadLine line) (inl h) = absurd (let wrong = good_reach opened back good bytes (log.BadLine line) (h.0, inl h.1) in cc)
 good_log opened back good bytes (log.BadLine line) (inr h) =
-    absurd (let wrong = good_reach opened back good bytes (log.BadLine line) (front_of_whole most_of_a_log opened back bytes h.0, inr (h.0.cause.1, h.1, h.2)) in cc)
+    absurd (let wrong = good_reach opened back good bytes (log.BadLine line) (prefix_of_whole most_of_a_log opened back bytes h.0, inr (h.0.cause.1, h.1, h.2)) in cc)
 good_log opened back good bytes log.Fault h = absurd (let wrong = good_reach opened back good bytes log.Fault h in cc)
 good_log opened back good bytes log.Long h = absurd (let wrong = good_reach opened back good bytes log.Long h in cc)
 
@@ -176,25 +176,25 @@ good_logs feed radios (r ∷ runs) (g ∷ goods) reads good same too =
 good_file : (opened back : SourceState) (good : IsGoodList opened back) (bytes : List ℕ) (whole : Bool) (end : LogEnd) → EndsLeap most_of_a_list opened back bytes whole end →
     (end ≡ log.Whole) × ((whole ≡ true) × (good.text ≡ bytes))
 good_file opened back good bytes whole log.Whole h =
-    let front = front_of opened.left back.left good.text (bytes ++ h.1.extra) good.told good.tells h.1.taken in
-    (refl, (h.0, whole_text bytes h.1.extra front.0 good.text front.2 h.1.cause.0 (none_left back.left front.0 front.1 h.1.cause.1)))
+    let prefix = prefix_of opened.left back.left good.text (bytes ++ h.1.extra) good.reported good.reports h.1.taken in
+    (refl, (h.0, whole_text bytes h.1.extra prefix.0 good.text prefix.2 h.1.cause.0 (none_left back.left prefix.0 prefix.1 h.1.cause.1)))
 good_file opened back good bytes whole (log.BadLine line) (inl h) =
-    let front = front_of opened.left back.left good.text bytes good.told good.tells h.1.taken in
-    let longer : good.text ++ 10 ∷ [] ≡ bytes ++ (front.0 ++ 10 ∷ []) = ap (λ l. l ++ 10 ∷ []) front.2 ∙ append_assoc bytes front.0 (10 ∷ []) in
-    let bad : bad_line true good.text ≡ Some line = bad_whole_is good.text ∙ ap (bad_line false) longer ∙ (stays_bad bytes (front.0 ++ 10 ∷ []) line h.2).bad in
+    let prefix = prefix_of opened.left back.left good.text bytes good.reported good.reports h.1.taken in
+    let longer : good.text ++ 10 ∷ [] ≡ bytes ++ (prefix.0 ++ 10 ∷ []) = ap (λ l. l ++ 10 ∷ []) prefix.2 ∙ append_assoc bytes prefix.0 (10 ∷ []) in
+    let bad : bad_line true good.text ≡ Some line = bad_whole_is good.text ∙ ap (bad_line false) longer ∙ (stays_bad bytes (prefix.0 ++ 10 ∷ []) line h.2).bad in
     absurd (let wrong : ◌≡◌ {A = Option ℕ} None (Some line) = sym good.lines ∙ bad in cc)
 good_file opened back good bytes whole (log.BadLine line) (inr h) =
-    let front = front_of opened.left back.left good.text (bytes ++ h.1.extra) good.told good.tells h.1.taken in
-    let same = whole_text bytes h.1.extra front.0 good.text front.2 h.1.cause.0 (none_left back.left front.0 front.1 h.1.cause.1) in
+    let prefix = prefix_of opened.left back.left good.text (bytes ++ h.1.extra) good.reported good.reports h.1.taken in
+    let same = whole_text bytes h.1.extra prefix.0 good.text prefix.2 h.1.cause.0 (none_left back.left prefix.0 prefix.1 h.1.cause.1) in
     absurd (let wrong : ◌≡◌ {A = Option ℕ} None (Some line) = sym good.lines ∙ ap (bad_line true) same ∙ h.3 in cc)
 good_file opened back good bytes whole log.Fault h = absurd (good.no_fault (rose_by_one opened.faults back.faults h.1.cause.1))
 good_file opened back good bytes whole log.Long h =
-    let front = front_of opened.left back.left good.text (bytes ++ h.1.extra) good.told good.tells h.1.taken in
+    let prefix = prefix_of opened.left back.left good.text (bytes ++ h.1.extra) good.reported good.reports h.1.taken in
     let size = h.1.cause.0 in
     let one = h.1.cause.1 in
     let most = good.most in
-    let len = ap length front.2 in
-    absurd (omega (arith, size, one, most, len, length-append (bytes ++ h.1.extra) front.0, length-append bytes h.1.extra))
+    let len = ap length prefix.2 in
+    absurd (omega (arith, size, one, most, len, length-append (bytes ++ h.1.extra) prefix.0, length-append bytes h.1.extra))
 
 good_list : (feed start : ℕ) (run good : Option LeapRun) → IfSome run (λ r. EndsLeap most_of_a_list r.opened r.back r.bytes r.whole r.end) → IfSome good IsGoodLeapRun →
     map (λ r. OfLog r.opened) (option_to_list run) ≡ map (λ r. OfLog r.opened) (option_to_list good) → map (λ r. OfLog r.back) (option_to_list run) ≡ map (λ r. OfLog r.back) (option_to_list good) →
@@ -213,17 +213,17 @@ good_list feed start (Some r) (Some g) read good same too =
     )
 
 -- a link without a fault has the events that it reports
-good_events : (opened back : LinkState) (told events : List NetEvent) → IsGoodLink opened back told → Adds opened.events back.events events → events ≡ told
-good_events opened back told events good adds = by opened.events back.events refl refl
+good_events : (opened back : LinkState) (reported events : List NetEvent) → IsGoodLink opened back reported → Adds opened.events back.events events → events ≡ reported
+good_events opened back reported events good adds = by opened.events back.events refl refl
   where
-    by : (was now : Option (List NetEvent)) → opened.events ≡ was → back.events ≡ now → events ≡ told
+    by : (was now : Option (List NetEvent)) → opened.events ≡ was → back.events ≡ now → events ≡ reported
     by None now e f = absurd (let wrong : ◌≡◌ {A = Option (List NetEvent)} None (Some good.before) = sym e ∙ good.were in cc)
-    by (Some was) None e f = absurd (let wrong : ◌≡◌ {A = Option (List NetEvent)} None (Some (good.before ++ told)) = sym f ∙ good.are in cc)
+    by (Some was) None e f = absurd (let wrong : ◌≡◌ {A = Option (List NetEvent)} None (Some (good.before ++ reported)) = sym f ∙ good.are in cc)
     by (Some was) (Some now) e f =
         let one : was ≡ good.before = (let g : ◌≡◌ {A = Option (List NetEvent)} (Some was) (Some good.before) = sym e ∙ good.were in cc) in
-        let two : now ≡ good.before ++ told = (let g : ◌≡◌ {A = Option (List NetEvent)} (Some now) (Some (good.before ++ told)) = sym f ∙ good.are in cc) in
+        let two : now ≡ good.before ++ reported = (let g : ◌≡◌ {A = Option (List NetEvent)} (Some now) (Some (good.before ++ reported)) = sym f ∙ good.are in cc) in
         let grown : Adds (Some was) (Some now) events = subst (λ o. Adds o (Some now) events) e (subst (λ o. Adds opened.events o events) f adds) in
-        append_cancel_left good.before events told (ap (λ l. l ++ events) (sym one) ∙ sym grown ∙ two)
+        append_cancel_left good.before events reported (ap (λ l. l ++ events) (sym one) ∙ sym grown ∙ two)
 
 good_poll : (server : ServerFields) (r : PollRun) → IsPolled server r → (Rose r.opened.faults r.back.faults → ⊥) → (feed : ℕ) → poll_cause feed r.end ≡ None
 good_poll server r polled no_fault feed = by r.end polled.ends
@@ -245,7 +245,7 @@ good_polls feed (server ∷ servers) (r ∷ runs) (g ∷ goods) polled good same
     let opened = link_state r.opened g.opened (first_state (OfLink r.opened) (OfLink g.opened) _ _ same) in
     let back = link_state r.back g.back (first_state (OfLink r.back) (OfLink g.back) _ _ too) in
     let good_r : IsGoodLink r.opened r.back g.events = subst (λ s. IsGoodLink s r.back g.events) (sym opened) (subst (λ s. IsGoodLink g.opened s g.events) (sym back) one) in
-    let events : r.events ≡ g.events = good_events r.opened r.back g.events r.events good_r polled.0.told in
+    let events : r.events ≡ g.events = good_events r.opened r.back g.events r.events good_r polled.0.reported in
     let none = good_poll server r polled.0 good_r.no_fault feed in
     let rest = good_polls (suc feed) servers runs goods polled.1 (All-tail (λ (l : PollRun). IsGoodLink l.opened l.back l.events) g goods good) (rest_states (OfLink r.opened) (OfLink g.opened) _ _ same) (rest_states (OfLink r.back) (OfLink g.back) _ _ too) in (
       ap (λ o. option_to_list o ++ each_cause (λ n (l : PollRun). poll_cause n l.end) (suc feed) runs) none ∙ rest.0,
@@ -276,9 +276,9 @@ good_clients during after of journal place (r ∷ runs) (g ∷ goods) served goo
 none_of_five : (a b c d e : List Ending) → a ≡ [] → b ≡ [] → c ≡ [] → d ≡ [] → e ≡ [] → a ++ (b ++ (c ++ (d ++ e))) ≡ []
 none_of_five a b c d e p q r s t = ap (λ l. l ++ (b ++ (c ++ (d ++ e)))) p ∙ ap (λ l. l ++ (c ++ (d ++ e))) q ∙ ap (λ l. l ++ (d ++ e)) r ∙ ap (λ l. l ++ e) s ∙ t
 
-nothing_told : (all : List Ending) (due : Ending) → all ≡ [] → IsTold all due → due ≡ ending.Whole
-nothing_told all due none (inl h) = h.1
-nothing_told all due none (inr h) = absurd (let e = ap length (sym none ∙ h.is) in omega (arith, e, length-append h.before (due ∷ h.behind)))
+nothing_reported : (all : List Ending) (due : Ending) → all ≡ [] → IsReported all due → due ≡ ending.Whole
+nothing_reported all due none (inl h) = h.1
+nothing_reported all due none (inr h) = absurd (let e = ap length (sym none ∙ h.is) in omega (arith, e, length-append h.before (due ∷ h.later)))
 
 -- ---- the station file
 
@@ -305,15 +305,15 @@ module _ (of : StationFields) (opened back : SourceState) (station : IsStation o
   only_memory : (end : FileEnd) (bytes : List ℕ) (due : Obstacle) → EndsReading end most_of_a_station opened back bytes → IsObstacle end bytes due → status_at due ≡ Memory
   only_memory file.Fault bytes due read is = absurd (no_fault (rose_by_one opened.faults back.faults read.cause.1))
   only_memory file.TooLong bytes due read is =
-      let front = front_of opened.left back.left station.text (bytes ++ read.extra) station.told station.tells read.taken in
+      let prefix = prefix_of opened.left back.left station.text (bytes ++ read.extra) station.reported station.reports read.taken in
       let size = read.cause.0 in
       let one = read.cause.1 in
-      let len = ap length front.2 in
-      absurd (omega (arith, size, one, len, most, length-append (bytes ++ read.extra) front.0, length-append bytes read.extra))
+      let len = ap length prefix.2 in
+      absurd (omega (arith, size, one, len, most, length-append (bytes ++ read.extra) prefix.0, length-append bytes read.extra))
   only_memory file.Whole bytes due read (inl memory) = ap status_at memory
   only_memory file.Whole bytes due read (inr faulty) =
-      let front = front_of opened.left back.left station.text (bytes ++ read.extra) station.told station.tells read.taken in
-      let same = whole_text bytes read.extra front.0 station.text front.2 read.cause.0 (none_left back.left front.0 front.1 read.cause.1) in
+      let prefix = prefix_of opened.left back.left station.text (bytes ++ read.extra) station.reported station.reports read.taken in
+      let same = whole_text bytes read.extra prefix.0 station.text prefix.2 read.cause.0 (none_left back.left prefix.0 prefix.1 read.cause.1) in
       absurd (not_refused bytes of faulty.0 (subst (λ b. Says b of) same station.says) faulty.3 faulty.2)
 
 -- ---- all of it
@@ -325,12 +325,12 @@ abbrev links_back : StationRun → List State
 links_back run = map (λ (r : PollRun). OfLink r.back) run.servers ++ map (λ (r : LinkRun). OfLink r.back) run.links
 
 module _ (name : List ℕ) (orders : Orders) (effect : Effect) (p : HasGoodStation name orders.limit effect.outside effect.outside_now) (no_write : Rose effect.out.faults effect.out_now.faults → ⊥) where
-  abbrev told : List Opening
-  told = map visited (log_visit name p.opened p.back ∷ p.visits)
+  abbrev reported : List Opening
+  reported = map visited (log_visit name p.opened p.back ∷ p.visits)
 
   at_station : EndsAtStation (LogOf name ∷ []) name effect → effect.status ≡ Memory
   at_station h =
-      let e = same_more effect.outside.openings effect.outside_now.openings p.before _ told h.opens.noted.noted p.were p.are in
+      let e = same_more effect.outside.openings effect.outside_now.openings p.before _ reported h.opens.noted.noted p.were p.are in
       let same = same_states name h.opened h.back p.opened p.back (first_of _ _ _ _ e) in
       let read = subst (λ s. EndsReading h.end most_of_a_station s p.back h.bytes) same.0 (subst (λ s. EndsReading h.end most_of_a_station h.opened s h.bytes) same.1 h.read) in
       answered _ effect.status effect.out effect.out_now _ h.written no_write ∙ only_memory p.of p.opened p.back p.is_station p.most p.no_fault h.end h.bytes h.due read h.cause
@@ -342,7 +342,7 @@ module _ (name : List ℕ) (orders : Orders) (effect : Effect) (p : HasGoodStati
       by None none = answered _ effect.status effect.out effect.out_now _ h.written no_write ∙ ap status_of (subst (λ f. Rattle.station_report.specs.Serving.LacksOne h.of (length h.visits) f h.due) none h.cause)
       by (Some what) some =
           let noted = subst (λ f. Adds effect.outside.openings effect.outside_now.openings (map visited (log_visit name h.opened h.back ∷ h.visits) ++ map failed (option_to_list f))) some h.opens.noted.noted in
-          let e = same_more effect.outside.openings effect.outside_now.openings p.before _ told noted p.were p.are in
+          let e = same_more effect.outside.openings effect.outside_now.openings p.before _ reported noted p.were p.are in
           absurd (none_failed (log_visit name h.opened h.back ∷ h.visits) (log_visit name p.opened p.back ∷ p.visits) what e)
 
   module _ (h : ServesStation name orders effect) (of_is : h.of ≡ p.of) (opened : opened_in h.run ≡ opened_in p.run) (back : back_in h.run ≡ back_in p.run) where
@@ -392,8 +392,8 @@ module _ (name : List ℕ) (orders : Orders) (effect : Effect) (p : HasGoodStati
 
     same_dues : dues h.of h.run ≡ dues p.of p.run
     same_dues =
-        let behind = leap_dues (leap_feed h.of) h.of.top.start h.run.leap in
-        ap (λ l. l ++ server_dues (length h.of.radios) h.of.servers h.run.servers ++ behind) logs.1 ∙ ap (λ l. radio_dues 0 h.of.radios p.run.radios ++ l ++ behind) polls.1
+        let later = leap_dues (leap_feed h.of) h.of.top.start h.run.leap in
+        ap (λ l. l ++ server_dues (length h.of.radios) h.of.servers h.run.servers ++ later) logs.1 ∙ ap (λ l. radio_dues 0 h.of.radios p.run.radios ++ l ++ later) polls.1
         ∙ ap (λ l. radio_dues 0 h.of.radios p.run.radios ++ server_dues (length h.of.radios) h.of.servers p.run.servers ++ l) list.1 ∙ ap (λ o. dues o p.run) of_is
 
     not_full : nat_lt orders.limit (due_in_all h.of h.run) ≡ false
@@ -403,11 +403,11 @@ module _ (name : List ℕ) (orders : Orders) (effect : Effect) (p : HasGoodStati
     no_cause = none_of_five _ _ _ _ _ logs.0 polls.0 list.0 clients (ap (λ b. option_to_list (full_cause orders.limit b)) not_full)
 
     all_whole : effect.status ≡ Done
-    all_whole = answered _ effect.status effect.out effect.out_now _ h.served.text.written no_write ∙ ap status_of (nothing_told (causes h.of orders.limit h.run) h.served.due no_cause h.served.cause)
+    all_whole = answered _ effect.status effect.out effect.out_now _ h.served.text.written no_write ∙ ap status_of (nothing_reported (causes h.of orders.limit h.run) h.served.due no_cause h.served.cause)
 
   served : ServesStation name orders effect → effect.status ≡ Done
   served h =
-      let e = same_more effect.outside.openings effect.outside_now.openings p.before _ told h.opens.noted.noted p.were p.are in
+      let e = same_more effect.outside.openings effect.outside_now.openings p.before _ reported h.opens.noted.noted p.were p.are in
       let same = same_states name h.opened h.back p.opened p.back (first_of _ _ _ _ e) in
       let of_is : h.of ≡ p.of = read_station p.of h.of h.opened h.back (subst (λ s. IsStation p.of s h.back) (sym same.0) (subst (λ s. IsStation p.of p.opened s) (sym same.1) p.is_station)) h.station in
       let visits = same_visits h.visits p.visits (sym (append-nil (map visited h.visits)) ∙ rest_of _ _ _ _ e) in
@@ -415,7 +415,7 @@ module _ (name : List ℕ) (orders : Orders) (effect : Effect) (p : HasGoodStati
 
   pub station_done : RunsServe name orders effect → (effect.status ≡ Done) ⊎ (effect.status ≡ Memory)
   station_done (inl not) =
-      let e = same_more effect.outside.openings effect.outside_now.openings p.before _ told not.opens.noted.noted p.were p.are in
+      let e = same_more effect.outside.openings effect.outside_now.openings p.before _ reported not.opens.noted.noted p.were p.are in
       absurd (not_failed name name p.opened p.back (first_of _ _ _ _ e))
   station_done (inr (inl ends)) = inr (at_station ends)
   station_done (inr (inr (inl lacks))) = inr (unserved lacks)

@@ -7,9 +7,9 @@ use Rattle.std.proofs.lemmas.Grind.{flat_map-append}
 use Rattle.std.proofs.lemmas.List.{append-nil}
 use Rattle.std.proofs.lemmas.List.Elements.{All-nil, All-cons, All-head, All-tail}
 use Rattle.std.proofs.lemmas.List.Sums.{sum_by-append}
-use Rattle.feed_link.specs.Told.{SourceState, LinkState, Adds}
-use Rattle.feed_link.specs.Openings.State.{OfLog, OfLink}
-use Rattle.feed_link.proofs.ToldLaws.{Adds-more}
+use Rattle.outside_traits.specs.States.{SourceState, LinkState, Adds}
+use Rattle.outside_traits.specs.Openings.State.{OfLog, OfLink}
+use Rattle.outside_traits.proofs.StateLaws.{Adds-more}
 use Rattle.feed_workers.specs.Leaps.{EndsLeap, most_of_a_list}
 use Rattle.feed_workers.specs.Logs.{EndsLog}
 use Rattle.log_decoder.specs.Decoding.{most_of_a_log}
@@ -23,9 +23,9 @@ use Rattle.responder.specs.Turns.{Turn, events_of, answered_of, dropped_of, kiss
 use Rattle.responder.specs.declared.served.End.{End}
 use Rattle.responder.specs.declared.served.End.TheVariants.{Count, LinkEnd, LinkFault}
 use Rattle.responder.specs.declared.served.Served.{Served}
-use Rattle.station_config.specs.Station.{RadioFields, ServerFields, StationFields}
+use Rattle.station_values.specs.Station.{RadioFields, ServerFields, StationFields}
 use Rattle.crew_work.specs.Lists.{Pairs}
-use Rattle.crew_work.specs.Served.{AreBlank, AsksServer, HearsRadio, LeapServed, ServesLink, ServesPhase, column_of, seen, service_of}
+use Rattle.crew_work.specs.Served.{AreBlank, AsksServer, ReadsRadio, LeapServed, ServesLink, ServesPhase, column_of, seen, service_of}
 use Rattle.crew_work.specs.declared.work.LinkWork.{LinkWork}
 use Rattle.station_gear.specs.Gears.{link_states, log_states}
 use Rattle.station_report.specs.Crewing.{end_of, end_by, in_both, line_of_work}
@@ -53,12 +53,12 @@ module _ {L : Type 0} (state : L → SourceState) (limit : ℕ) (journal : List 
     pub ends_are : map (λ log. log.end) runs ≡ map (λ w. w.end) works
     pub due : HaveDue limit journal first (map (λ w. w.full) works) (radio_dues first radios runs)
 
-  abbrev pub HearEach : List RadioFields → ℕ → List L → List L → List LogWork → Type 0
-  HearEach radios first logs now works = (i : ℕ) (radio : RadioFields) (a b : L) (work : LogWork) → i < length logs →
-      HearsRadio (slice_index_or radios i radio) (column_of (first + i) limit journal) (state (slice_index_or logs i a)) (state (slice_index_or now i b)) (slice_index_or works i work)
+  abbrev pub ReadEach : List RadioFields → ℕ → List L → List L → List LogWork → Type 0
+  ReadEach radios first logs now works = (i : ℕ) (radio : RadioFields) (a b : L) (work : LogWork) → i < length logs →
+      ReadsRadio (slice_index_or radios i radio) (column_of (first + i) limit journal) (state (slice_index_or logs i a)) (state (slice_index_or now i b)) (slice_index_or works i work)
 
   pub logs_run : (radios : List RadioFields) (first : ℕ) (logs now : List L) (works : List LogWork) → length logs ≡ length radios → length now ≡ length logs → length works ≡ length logs →
-      HearEach radios first logs now works → LogsRun radios first logs now works
+      ReadEach radios first logs now works → LogsRun radios first logs now works
   logs_run [] first [] [] [] n m k at = record { runs = []; each = refl; opened_are = refl; back_are = refl; read = All-nil _; ends_are = refl; due = tt }
   logs_run [] first [] [] (work ∷ works) n m k at = absurd (omega (arith, k))
   logs_run [] first [] (b ∷ now) works n m k at = absurd (omega (arith, m))
@@ -68,10 +68,10 @@ module _ {L : Type 0} (state : L → SourceState) (limit : ℕ) (journal : List 
   logs_run (radio ∷ radios) first (a ∷ logs) (b ∷ now) [] n m k at = absurd (omega (arith, k))
   logs_run (radio ∷ radios) first (a ∷ logs) (b ∷ now) (work ∷ works) n m k at =
       let zeroth : first + 0 ≡ first = omega arith in
-      let one : HearsRadio radio (column_of first limit journal) (state a) (state b) work = subst (λ f. HearsRadio radio (column_of f limit journal) (state a) (state b) work) zeroth (at 0 radio a b work (omega arith)) in
-      let others : HearEach radios (suc first) logs now works = λ i r c d w lt.
+      let one : ReadsRadio radio (column_of first limit journal) (state a) (state b) work = subst (λ f. ReadsRadio radio (column_of f limit journal) (state a) (state b) work) zeroth (at 0 radio a b work (omega arith)) in
+      let others : ReadEach radios (suc first) logs now works = λ i r c d w lt.
       let next : first + suc i ≡ suc first + i = omega arith in
-      subst (λ f. HearsRadio (slice_index_or radios i r) (column_of f limit journal) (state (slice_index_or logs i c)) (state (slice_index_or now i d)) (slice_index_or works i w)) next (at (suc i) r c d w (omega (arith, lt))) in
+      subst (λ f. ReadsRadio (slice_index_or radios i r) (column_of f limit journal) (state (slice_index_or logs i c)) (state (slice_index_or now i d)) (slice_index_or works i w)) next (at (suc i) r c d w (omega (arith, lt))) in
       let rest = logs_run radios (suc first) logs now works (omega (arith, n)) (omega (arith, m)) (omega (arith, k)) others in
       let run : LogRun = record { opened = state a; back = state b; bytes = one.bytes; end = work.end } in
       record {
@@ -124,7 +124,7 @@ module _ {T : Type 0} (state : T → LinkState) (limit : ℕ) (journal : List En
       let run : PollRun = record { opened = state a; back = state b; events = one.events; end = work.end } in
       record {
         runs = run ∷ rest.runs;
-        polled = (record { told = one.told; ends = one.ends }, rest.polled);
+        polled = (record { reported = one.reported; ends = one.ends }, rest.polled);
         opened_are = ap (λ l. OfLink (state a) ∷ l) rest.opened_are;
         back_are = ap (λ l. OfLink (state b) ∷ l) rest.back_are;
         ends_are = ap (λ l. work.end ∷ l) rest.ends_are;
@@ -201,18 +201,18 @@ same_line number s t e f answered dropped again kissed unkept end =
 module _ (of : StationFields) (journal : List Entry) (during after : ℕ) (a b : LinkState) (work : LinkWork) (h : ServesLink (service_of of journal (record { during = during; after = after })) a b work) where
   goes_on : work.first.end ≡ Count → LinkIs of journal during after a b work
   goes_on is =
-      let told = h.second_phase.served is in
-      let served : Served = told.0 in
-      let phase : ServesPhase after h.between b served h.second = told.2 in
+      let reported = h.second_phase.served is in
+      let served : Served = reported.0 in
+      let phase : ServesPhase after h.between b served h.second = reported.2 in
       let first = subst (λ e. EndsBy during a.faults h.between.faults h.first e) is h.first_phase.ends in
       record {
         run = record { opened = a; back = b; first = h.first; second = h.second; end = served.end };
         opened_is = refl;
         back_is = refl;
         answered = record {
-          told = subst (λ l. Adds a.events b.events l) (sym (flat_map-append events_of h.first h.second)) (Adds-more a.events h.between.events b.events _ _ h.first_phase.events phase.events);
+          reported = subst (λ l. Adds a.events b.events l) (sym (flat_map-append events_of h.first h.second)) (Adds-more a.events h.between.events b.events _ _ h.first_phase.events phase.events);
           gate_now = h.gate_now;
-          replies = h.lawful;
+          replies = h.valid;
           pages = h.pages;
           last = h.last;
           rising = h.rising;
@@ -221,14 +221,14 @@ module _ (of : StationFields) (journal : List Entry) (during after : ℕ) (a b :
           few_left = h.few_again;
           ends = inl (first.0, first.1, subst (λ n. EndsBy after n b.faults h.second served.end) first.2 phase.ends);
         };
-        end_is = sym (ap (end_by work.first.end) told.1);
+        end_is = sym (ap (end_by work.first.end) reported.1);
         line_is = λ number. same_line number _ (tally_of (h.first ++ h.second)) _ _
-            (ap (λ (s : Option Served). in_both work.first.answered (option_map (λ x. x.answered) s)) told.1 ∙ both answered_of h.first h.second _ _ h.first_phase.counts.answered phase.counts.answered)
-            (ap (λ (s : Option Served). in_both work.first.dropped (option_map (λ x. x.dropped) s)) told.1 ∙ both dropped_of h.first h.second _ _ h.first_phase.counts.dropped phase.counts.dropped)
-            (ap (λ (s : Option Served). in_both work.first.again (option_map (λ x. x.again) s)) told.1 ∙ both torn_of h.first h.second _ _ h.first_phase.counts.again phase.counts.again)
-            (ap (λ (s : Option Served). in_both work.first.kissed (option_map (λ x. x.kissed) s)) told.1 ∙ both kissed_of h.first h.second _ _ h.first_phase.counts.kissed phase.counts.kissed)
-            (ap (λ (s : Option Served). in_both work.first.unkept (option_map (λ x. x.unkept) s)) told.1 ∙ both unkept_of h.first h.second _ _ h.first_phase.counts.unkept phase.counts.unkept)
-            (ap (end_by work.first.end) told.1);
+            (ap (λ (s : Option Served). in_both work.first.answered (option_map (λ x. x.answered) s)) reported.1 ∙ both answered_of h.first h.second _ _ h.first_phase.counts.answered phase.counts.answered)
+            (ap (λ (s : Option Served). in_both work.first.dropped (option_map (λ x. x.dropped) s)) reported.1 ∙ both dropped_of h.first h.second _ _ h.first_phase.counts.dropped phase.counts.dropped)
+            (ap (λ (s : Option Served). in_both work.first.again (option_map (λ x. x.again) s)) reported.1 ∙ both torn_of h.first h.second _ _ h.first_phase.counts.again phase.counts.again)
+            (ap (λ (s : Option Served). in_both work.first.kissed (option_map (λ x. x.kissed) s)) reported.1 ∙ both kissed_of h.first h.second _ _ h.first_phase.counts.kissed phase.counts.kissed)
+            (ap (λ (s : Option Served). in_both work.first.unkept (option_map (λ x. x.unkept) s)) reported.1 ∙ both unkept_of h.first h.second _ _ h.first_phase.counts.unkept phase.counts.unkept)
+            (ap (end_by work.first.end) reported.1);
       }
 
   ends_first : work.first.end ≢ Count → LinkIs of journal during after a b work
@@ -242,10 +242,10 @@ module _ (of : StationFields) (journal : List Entry) (during after : ℕ) (a b :
         opened_is = refl;
         back_is = refl;
         answered = record {
-          told = subst (λ (s : LinkState). Adds a.events s.events (flat_map events_of (h.first ++ h.second))) (sym same)
+          reported = subst (λ (s : LinkState). Adds a.events s.events (flat_map events_of (h.first ++ h.second))) (sym same)
               (subst (λ l. Adds a.events h.between.events (flat_map events_of (h.first ++ l))) (sym no_second) (subst (λ l. Adds a.events h.between.events (flat_map events_of l)) (sym (append-nil h.first)) h.first_phase.events));
           gate_now = h.gate_now;
-          replies = h.lawful;
+          replies = h.valid;
           pages = h.pages;
           last = h.last;
           rising = h.rising;

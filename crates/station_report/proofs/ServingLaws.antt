@@ -8,11 +8,11 @@ use Rattle.std.proofs.lemmas.List.{length-map}
 use Rattle.std.proofs.lemmas.List.Folds.{list_any-append}
 use Rattle.std.proofs.lemmas.List.Elements.{All-nil, All-cons}
 use mathlib.Core.List.{IsPrefix}
-use Rattle.feed_link.specs.ManyOut.{GivesAllBack, Held, returned}
-use Rattle.feed_link.specs.Openings.{OutsideState, State, Visit, Wanted, log_visit}
-use Rattle.feed_link.specs.Openings.Wanted.{LogOf}
-use Rattle.feed_link.specs.Told.{LinkState, SinkState, SourceState}
-use Rattle.feed_link.proofs.OpeningLaws.{GrowsBy-none}
+use Rattle.outside_traits.specs.ManyOut.{GivesAllBack, Held, returned}
+use Rattle.outside_traits.specs.Openings.{OutsideState, State, Visit, Wanted, log_visit}
+use Rattle.outside_traits.specs.Openings.Wanted.{LogOf}
+use Rattle.outside_traits.specs.States.{LinkState, SinkState, SourceState}
+use Rattle.outside_traits.proofs.OpeningLaws.{GrowsBy-none}
 use Rattle.feed_workers.specs.declared.work.LogWork.{LogWork}
 use Rattle.feed_workers.specs.declared.work.PollWork.{PollWork}
 use Rattle.file_reader.specs.declared.reader.FileEnd.{FileEnd}
@@ -20,7 +20,7 @@ use Rattle.file_reader.specs.declared.reader.FileEnd.TheVariants.{Whole}
 use Rattle.journal_entry.specs.declared.entry.Entry.{Entry}
 use Rattle.page_cell.specs.Claims.{of_feed}
 use Rattle.station_reader.specs.Faults.{Says}
-use Rattle.station_config.specs.Station.{ServerFields, StationFields, kind_of_radio, kind_of_server, leap_feed, leap_feeds, settings_of}
+use Rattle.station_values.specs.Station.{ServerFields, StationFields, kind_of_radio, kind_of_server, leap_feed, leap_feeds, settings_of}
 use Rattle.crew_work.proofs.JournalLaws.{feeds-counted}
 use Rattle.crew_work.proofs.ListLaws.{leap_feeds-length, length-is-some}
 use Rattle.station_gear.specs.Gears.{logs_needed, numbers_of, servers_needed, states_of, wanted_by}
@@ -34,7 +34,7 @@ use Rattle.crew_work.specs.Served.{seen, sights_of}
 use Rattle.station_report.specs.Crewing.{CannotServe, FinishesDone, GivesServed, GivesUnused, HasEach, IsLeftOf, LeavesAll, ServesAll, TriesServe, any_full, causes_left, end_of, line_of_work, lines_left, subject_of}
 use Rattle.file_commands.specs.Effects.{effect_of}
 use Rattle.file_commands.specs.Endings.{status_of, status_line}
-use Rattle.station_report.specs.Headline.{HasDueEntries, IsTold, LeapRun, LinkRun, LogRun, PollRun, StationRun, causes, dues, each_cause, each_text, full_cause, leap_dues, link_cause, log_cause, poll_cause, radio_dues, served_text, server_dues}
+use Rattle.station_report.specs.Headline.{HasDueEntries, IsReported, LeapRun, LinkRun, LogRun, PollRun, StationRun, causes, dues, each_cause, each_text, full_cause, leap_dues, link_cause, log_cause, poll_cause, radio_dues, served_text, server_dues}
 use Rattle.file_commands.specs.Keeping.{OpensStation}
 use Rattle.file_commands.specs.Migrating.{journal_text}
 use Rattle.station_report.specs.Serving.{LacksOne, RunsServe, subject_at}
@@ -213,7 +213,7 @@ module _ {L T : Type 0} (log_state : L → SourceState) (log_opening : L → ℕ
         visits = returned held.outs states;
         failing = failing;
         opens = all_visited (wanted_by of) numbers numbers states before mid failing held refl states now sizes gives;
-        unused = returned-unused held.outs states held.told;
+        unused = returned-unused held.outs states held.reported;
         cause = subst (λ n. LacksOne of n failing due) (sym (returned-length held.outs states count)) cause;
       }
 
@@ -227,7 +227,7 @@ pub never_opened : (of : StationFields) (outside : OutsideState) → CannotServe
 never_opened of outside = record {
   visits = [];
   failing = None;
-  opens = record { behind = wanted_by of; in_order = refl; noted = GrowsBy-none outside; faults = refl };
+  opens = record { later = wanted_by of; in_order = refl; noted = GrowsBy-none outside; faults = refl };
   unused = All-nil IsUnused;
   cause = refl;
 }
@@ -321,7 +321,7 @@ module _ {L T : Type 0} (log_state : L → SourceState) (log_opening : L → ℕ
   )
 
   counted : length journal ≡ sum_by (λ feed. length (of_feed feed journal)) (range_with_len 0 (length (dues of run)))
-  counted = feeds-counted (settings_of of) journal left.of_station.lawful ∙ ap (λ n. sum_by (λ feed. length (of_feed feed journal)) (range_with_len 0 n)) sources
+  counted = feeds-counted (settings_of of) journal left.of_station.valid ∙ ap (λ n. sum_by (λ feed. length (of_feed feed journal)) (range_with_len 0 n)) sources
 
   pub entries : HasDueEntries of orders.limit run
   entries = record {
@@ -330,7 +330,7 @@ module _ {L T : Type 0} (log_state : L → SourceState) (log_opening : L → ℕ
     beginning = λ feed due at. let same : 0 + feed ≡ feed = omega arith in
         subst (λ n. IsPrefix (of_feed n journal) due) same (beginnings orders.limit journal 0 fulls (dues of run) have_due feed due at);
     count = is_counted orders.limit journal fulls (dues of run) have_due left.of_station.within counted;
-    lawful = left.of_station.lawful;
+    valid = left.of_station.valid;
   }
 
   any_is : any_full done.work.radios.items done.work.servers.items done.work.leap ≡ list_any is_so fulls
@@ -344,10 +344,10 @@ module _ {L T : Type 0} (log_state : L → SourceState) (log_opening : L → ℕ
       let clients = same_causes link_cause end_of (λ (link : LinkRun). link.end) 0 done.work.links.items clients_run.runs (sym clients_run.ends_are) in
       let first : length done.work.radios.items ≡ length of.radios = left.radios_served.count ∙ logs_open in
       let next : length done.work.servers.items ≡ length of.servers = left.servers_served.count ∙ servers_open in
-      let behind : length done.work.radios.items + length done.work.servers.items ≡ leap_feed of = omega (arith, first, next) in
+      let later : length done.work.radios.items + length done.work.servers.items ≡ leap_feed of = omega (arith, first, next) in
       let full = ap (λ b. option_to_list (full_cause orders.limit b)) (any_is ∙ sym (is_lost orders.limit journal fulls (dues of run) have_due left.of_station.within counted)) in
       four _ _ _ _ _ _ _ _ radios (ap (λ n. each_cause (λ feed (w : PollWork). poll_cause feed w.end) n done.work.servers.items) first ∙ servers)
-      (ap (λ n. each_cause (λ feed (w : LogWork). log_cause feed w.end) n (option_to_list done.work.leap)) behind ∙ listed)
+      (ap (λ n. each_cause (λ feed (w : LogWork). log_cause feed w.end) n (option_to_list done.work.leap)) later ∙ listed)
       (ap (λ l. l ++ option_to_list (full_cause orders.limit (any_full done.work.radios.items done.work.servers.items done.work.leap))) clients ∙ ap (λ l. each_cause (λ n (link : LinkRun). link_cause n link.end) 0 clients_run.runs ++ l) full)
 
   pub each_left : HasEach of done
@@ -369,7 +369,7 @@ module _ {L T : Type 0} (log_state : L → SourceState) (log_opening : L → ℕ
         run = run;
         visits = returned held.outs states_now;
         opens = all_visited (wanted_by of) _ _ _ before mid None held same states_now now sizes gives;
-        opened_are = returned-opened held.outs states_now count ∙ sym held.told ∙ sym (four _ _ _ _ _ _ _ _ radios_run.opened_are leap_run.opened_are servers_run.opened_are clients_run.opened_are);
+        opened_are = returned-opened held.outs states_now count ∙ sym held.reported ∙ sym (four _ _ _ _ _ _ _ _ radios_run.opened_are leap_run.opened_are servers_run.opened_are clients_run.opened_are);
         back_are = returned-back held.outs states_now count ∙ sym (four _ _ _ _ _ _ _ _ radios_run.back_are leap_run.back_are servers_run.back_are clients_run.back_are);
         entries = entries;
         logs = record { each = radios_run.each; read = radios_run.read; leap = leap_run.there ∙ list_open; leap_read = leap_run.read };
@@ -453,6 +453,6 @@ ends_served name orders outside mid now out out_now result of bytes done h says 
     clients = served.clients;
     due = finishes.due;
     text = record { written = subst (λ t. Answers (status_of finishes.due) result out out_now (t ++ status_line finishes.due)) (text_same of orders.limit served.run done served.left) finishes.written };
-    cause = subst (λ all. IsTold all finishes.due) served.left.causes_are finishes.cause;
+    cause = subst (λ all. IsReported all finishes.due) served.left.causes_are finishes.cause;
   };
 })))

@@ -2,14 +2,14 @@
 use Rattle.std.specs.Prelude.{◌≡◌, ℕ, ◌+◌, ◌||◌, Bool, Option, None, Some, option_map, Result, MatchResult, List, [], ◌++◌, All, length, map}
 use Rattle.std.specs.List.{list_any}
 use Rattle.std.specs.Option.{option_to_list}
-use Rattle.feed_link.specs.Told.{SinkState}
-use Rattle.feed_link.specs.Openings.{OutsideState, Visit, Wanted, MakesOpenings}
-use Rattle.feed_link.specs.ManyOut.{GivesAllBack}
+use Rattle.outside_traits.specs.States.{SinkState}
+use Rattle.outside_traits.specs.Openings.{OutsideState, Visit, Wanted, MakesOpenings}
+use Rattle.outside_traits.specs.ManyOut.{GivesAllBack}
 use Rattle.feed_workers.specs.declared.work.LogWork.{LogWork}
 use Rattle.feed_workers.specs.declared.work.PollWork.{PollWork}
 use Rattle.responder.specs.declared.served.End.{End}
 use Rattle.responder.specs.declared.served.Served.{Served}
-use Rattle.station_config.specs.Station.{StationFields, leap_feed, settings_of}
+use Rattle.station_values.specs.Station.{StationFields, leap_feed, settings_of}
 use Rattle.crew_work.specs.Served.{IsJournalOf, LeapServed, LinksServed, RadiosServed, ServersServed, Sights, column_of, service_of}
 use Rattle.crew_work.specs.declared.work.LinkWork.{LinkWork}
 use Rattle.station_gear.specs.Gears.{numbers_of, states_of, wanted_by}
@@ -19,7 +19,7 @@ use Rattle.station_gear.specs.declared.gear.Missing.TheVariants as missing
 use Rattle.system_fold.specs.Page.{page_of}
 use Rattle.verdict_journal.specs.Journals.{State}
 use Rattle.file_commands.specs.Endings.{status_of, status_line}
-use Rattle.station_report.specs.Headline.{AnswersLinks, HasDueEntries, IsFirstOfLeast, IsTold, PollsServers, ReadsLogs, StationRun, Tally, causes, each_cause, each_text, full_cause, line_of_link, link_cause, link_line, log_cause, poll_cause}
+use Rattle.station_report.specs.Headline.{AnswersLinks, HasDueEntries, IsFirstOfLeast, IsReported, PollsServers, ReadsLogs, StationRun, Tally, causes, each_cause, each_text, full_cause, line_of_link, link_cause, link_line, log_cause, poll_cause}
 use Rattle.file_commands.specs.Migrating.{journal_text}
 use Rattle.station_report.specs.Serving.{LacksOne, back_in, opened_in}
 use Rattle.file_commands.specs.Text.{page_text}
@@ -102,7 +102,7 @@ lines_left done = lines_of_journal done.journal ++ (each_text line_of_work 0 don
 -- they are written, and then how the run ends
 pub record FinishesDone (limit : ℕ) (done : Done) (out out_now : SinkState) (result : Status) : Type 0 where
   pub due : Ending
-  pub cause : IsTold (causes_left limit done) due
+  pub cause : IsReported (causes_left limit done) due
   pub written : Answers (status_of due) result out out_now (lines_left done ++ status_line due)
 
 -- ---- what is done

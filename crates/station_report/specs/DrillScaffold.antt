@@ -3,14 +3,14 @@ use Rattle.std.specs.Prelude.{◌≡◌, ℕ, ◌+◌, ◌≤◌, ◌==◌, nat_
 use Rattle.std.specs.List.{flat_map}
 use Rattle.std.specs.Option.{option_to_list}
 use Rattle.memory_links.specs.Memory.{sure_state}
-use Rattle.feed_link.specs.Told.{SinkState}
+use Rattle.outside_traits.specs.States.{SinkState}
 use Rattle.memory_links.specs.declared.sure_source.SureSource.{SureSource}
 use Rattle.journal_entry.specs.declared.entry.Entry.{Entry}
 use Rattle.journal_entry.specs.declared.entry.What.{What}
 use Rattle.journal_entry.specs.declared.entry.What.TheVariants.{Heard, Sample, Declined, Notice}
 use Rattle.page_cell.specs.Claims.{of_feed}
 use Rattle.drill_day.specs.Day.{IsDay, day_logs, source_of}
-use Rattle.station_config.specs.Station.{one_of_each, settings_of}
+use Rattle.station_values.specs.Station.{one_of_each, settings_of}
 use Rattle.station_gear.specs.declared.gear.Gear.{Gear}
 use Rattle.system_fold.specs.Page.{page_of}
 use Rattle.tick_units.specs.declared.marks.Plan.{Plan}
@@ -19,7 +19,7 @@ use Rattle.station_report.specs.Crewing.{HasEach, causes_left}
 use Rattle.verdict_journal.specs.Journals.{State}
 use Rattle.station_report.specs.Drilling.{day_run, feed_line, is_differing, is_lone, is_refused, is_verdict, times}
 use Rattle.file_commands.specs.Endings.{status_of, status_line}
-use Rattle.station_report.specs.Headline.{HasDueEntries, IsTold, due_in_all, full_cause}
+use Rattle.station_report.specs.Headline.{HasDueEntries, IsReported, due_in_all, full_cause}
 use Rattle.file_commands.specs.Text.{page_text}
 use Rattle.file_commands.specs.Writing.{Answers}
 use Rattle.station_report.specs.declared.drill_text.Counts.{Counts}
@@ -97,5 +97,5 @@ pub record HasDrilled (seed limit : ℕ) (done : Done) : Type 0 where
 -- what they left is reported
 pub record FinishesDrill (limit : ℕ) (done : Done) (out out_now : SinkState) (result : Status) : Type 0 where
   pub due : Ending
-  pub cause : IsTold (causes_left limit done) due
+  pub cause : IsReported (causes_left limit done) due
   pub written : Answers (status_of due) result out out_now ((feed_lines done.journal.entries ++ page_text (page_of done.journal.settings done.journal.entries)) ++ status_line due)

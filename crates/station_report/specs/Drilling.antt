@@ -9,7 +9,7 @@ use Rattle.journal_entry.specs.declared.entry.What.{What}
 use Rattle.journal_entry.specs.declared.entry.What.TheVariants.{Heard, Sample, Declined, Notice}
 use Rattle.page_cell.specs.Claims.{of_feed}
 use Rattle.drill_day.specs.Day.{day_logs, source_of}
-use Rattle.station_config.specs.Station.{one_of_each, settings_of}
+use Rattle.station_values.specs.Station.{one_of_each, settings_of}
 use Rattle.system_fold.specs.Page.{page_of}
 use Rattle.tick_units.specs.declared.verdicts.Kind.{Kind}
 use Rattle.tick_units.specs.declared.verdicts.Kind.TheVariants.{Verdict, Lone, Differs, Refused}
@@ -47,15 +47,15 @@ is_refused (Differs before now apart) = false
 is_refused (Refused rule) = true
 
 -- an entry of a radio says such an answer
-abbrev pub was_heard : (Kind → Bool) → What → Bool
-was_heard test (Heard kind) = test kind
-was_heard test (Sample sample) = false
-was_heard test (Declined code) = false
-was_heard test (Notice leap_at) = false
+abbrev pub was_received : (Kind → Bool) → What → Bool
+was_received test (Heard kind) = test kind
+was_received test (Sample sample) = false
+was_received test (Declined code) = false
+was_received test (Notice leap_at) = false
 
 -- how many of these entries do
 abbrev pub times : (Kind → Bool) → List Entry → ℕ
-times test entries = count_by (λ (e : Entry). was_heard test e.what) entries
+times test entries = count_by (λ (e : Entry). was_received test e.what) entries
 
 -- the line of a feed, by its entries
 unfoldable pub feed_line : ℕ → List Entry → List ℕ

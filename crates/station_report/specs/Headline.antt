@@ -4,11 +4,11 @@
 -- one than that link used before, or the kiss code that its sender gets, and authentic exactly where the one received is.
 -- Six records say it, and `IsServed` at the end has all of them.
 -- Read on in this order; each file names its source. docs/HEADLINE.md has examples, and what is trusted.
---   what an object reports, and its faults    feed_link Told, Faults
+--   what an object reports, and its faults    outside_traits Told, Faults
 --   how far a file is read                    file_reader Ends; log_decoder Decoding; feed_workers Logs, Leaps
 --   how a server is polled                    poll_core Histories; feed_workers Polls, Polling
 --   which client passes                       packet_auth Keys; kiss_gate Nets, Clients, Gates
---   a station, its journal and its page       system_fold Settings; station_config Station; page_cell Claims; crew_work Lists; clock_page Page
+--   a station, its journal and its page       system_fold Settings; station_values Station; page_cell Claims; crew_work Lists; clock_page Page
 --   the turns of a link                       responder Turns; crew_work Served; responder Serving
 --   texts and statuses                        sink_text Writing; journal_entry Texts; system_fold Numbered; file_commands Writing, Endings, Text, Migrating
 -- Taken on their tests: due_log (log_decoder Due), leap_seconds (leap_file Rows), page_of (system_fold Page),
@@ -17,7 +17,7 @@ use Rattle.std.specs.Prelude.{◌≡◌, ◌≢◌, ◌⊎◌, ℕ, suc, ◌*◌
 use Rattle.std.specs.List.{flat_map, sum_by}
 use Rattle.std.specs.Option.{option_to_list}
 use mathlib.Core.List.{IsPrefix}
-use Rattle.feed_link.specs.Told.{SourceState, SinkState, LinkState, NetEvent, Adds}
+use Rattle.outside_traits.specs.States.{SourceState, SinkState, LinkState, NetEvent, Adds}
 use Rattle.feed_workers.specs.Leaps.{EndsLeap, due_leap, most_of_a_list}
 use Rattle.feed_workers.specs.Logs.{EndsLog}
 use Rattle.log_decoder.specs.Decoding.{most_of_a_log}
@@ -36,7 +36,7 @@ use Rattle.responder.specs.Serving.{EndsBy}
 use Rattle.responder.specs.Turns.{Turn, events_of, readings_of, AreTurns, GoesOn, answered_of, dropped_of, torn_of, kissed_of, unkept_of, Rises}
 use Rattle.responder.specs.declared.served.End.{End}
 use Rattle.responder.specs.declared.served.End.TheVariants.{Count, LinkEnd, LinkFault}
-use Rattle.station_config.specs.Station.{RadioFields, ServerFields, StationFields, gate_of, leap_feed, settings_of}
+use Rattle.station_values.specs.Station.{RadioFields, ServerFields, StationFields, gate_of, leap_feed, settings_of}
 use Rattle.crew_work.specs.Lists.{Pairs}
 use Rattle.crew_work.specs.Served.{IsReadOf}
 use Rattle.crew_work.specs.declared.work.Orders.{Orders}
@@ -122,7 +122,7 @@ pub record HasDueEntries (of : StationFields) (limit : ℕ) (run : StationRun) :
   pub whole : due_in_all of run ≤ limit → (feed : ℕ) (due : List Entry) → slice_get (dues of run) feed ≡ Some due → of_feed feed run.journal ≡ due
   pub beginning : (feed : ℕ) (due : List Entry) → slice_get (dues of run) feed ≡ Some due → IsPrefix (of_feed feed run.journal) due
   pub count : length run.journal ≡ min (due_in_all of run) limit
-  pub lawful : IsJournal (settings_of of) run.journal
+  pub valid : IsJournal (settings_of of) run.journal
 
 -- ---- 2. Each log is read
 
@@ -138,7 +138,7 @@ pub record ReadsLogs (of : StationFields) (run : StationRun) : Type 0 where
 
 -- its link's events are those of this many rounds; of fewer only where the link ended, or a call of it failed, which cuts a round
 pub record IsPolled (server : ServerFields) (polled : PollRun) : Type 0 where
-  pub told : Adds polled.opened.events polled.back.events polled.events
+  pub reported : Adds polled.opened.events polled.back.events polled.events
   pub ends : EndsPolls server.address server.polls polled.opened.faults polled.back.faults polled.events polled.end
 
 pub record PollsServers (of : StationFields) (run : StationRun) : Type 0 where
@@ -158,7 +158,7 @@ EndsPhases during after link =
 -- beginning of the journal, and these beginnings never shorten; in the second phase each is the whole journal, and no datagram is left for
 -- lack of a page. Of those that were left so in the first phase, four times as many are no more than there are entries
 pub record IsAnswered (of : StationFields) (journal : List Entry) (during after : ℕ) (link : LinkRun) : Type 0 where
-  pub told : Adds link.opened.events link.back.events (flat_map events_of (link.first ++ link.second))
+  pub reported : Adds link.opened.events link.back.events (flat_map events_of (link.first ++ link.second))
   pub gate_now : Gate
   pub replies : AreTurns of.keys (gate_of of) (link.first ++ link.second) gate_now
   pub pages : All (IsReadOf (settings_of of) journal) (flat_map readings_of (link.first ++ link.second))
@@ -260,14 +260,14 @@ number_at ending = number_of (status_of ending)
 -- of all causes the one whose status has the least number, and of those with one number the first
 pub record IsFirstOfLeast (all : List Ending) (due : Ending) : Type 0 where
   pub before : List Ending
-  pub behind : List Ending
-  pub is : all ≡ before ++ due ∷ behind
+  pub later : List Ending
+  pub is : all ≡ before ++ due ∷ later
   pub greater : All (λ other. number_at due < number_at other) before
-  pub no_less : All (λ other. number_at due ≤ number_at other) behind
+  pub no_less : All (λ other. number_at due ≤ number_at other) later
 
 -- that one is reported; where nothing went wrong, all is whole
-abbrev pub IsTold : List Ending → Ending → Type 0
-IsTold all due = ((all ≡ []) × (due ≡ Whole)) ⊎ IsFirstOfLeast all due
+abbrev pub IsReported : List Ending → Ending → Type 0
+IsReported all due = ((all ≡ []) × (due ≡ Whole)) ⊎ IsFirstOfLeast all due
 
 -- ---- all of it
 
@@ -278,4 +278,4 @@ pub record IsServed (of : StationFields) (orders : Orders) (run : StationRun) (o
   pub clients : AnswersLinks of orders.budget.during orders.budget.after run
   pub due : Ending
   pub text : WritesServed of run due out out_now result
-  pub cause : IsTold (causes of orders.limit run) due
+  pub cause : IsReported (causes of orders.limit run) due

@@ -2,12 +2,12 @@
 -- of it is this project's own.
 use Rattle.std.specs.Prelude.{◌≡◌, ◌⊎◌, ℕ, ◌+◌, ◌-◌, ◌≤◌, nat_lt, true, Option, None, Some, IfSome, IsSome, is_some, List, [], ◌∷◌, ◌++◌, All, length, map, if◌then◌else◌}
 use Rattle.std.specs.Option.{option_to_list}
-use Rattle.feed_link.specs.Faults.{Rose}
-use Rattle.feed_link.specs.Told.{SourceState, LinkState, NetEvent}
-use Rattle.feed_link.specs.Openings.{Opening, OutsideState, State, Visit, Wanted, MakesOpenings, log_visit, visited}
-use Rattle.feed_link.specs.Openings.State.{OfLog, OfLink}
-use Rattle.feed_link.specs.Openings.Wanted.{LogOf}
-use Rattle.station_config.specs.Station.{StationFields, feed_count, leap_feed, leap_feeds}
+use Rattle.outside_traits.specs.Faults.{Rose}
+use Rattle.outside_traits.specs.States.{SourceState, LinkState, NetEvent}
+use Rattle.outside_traits.specs.Openings.{Opening, OutsideState, State, Visit, Wanted, MakesOpenings, log_visit, visited}
+use Rattle.outside_traits.specs.Openings.State.{OfLog, OfLink}
+use Rattle.outside_traits.specs.Openings.Wanted.{LogOf}
+use Rattle.station_values.specs.Station.{StationFields, feed_count, leap_feed, leap_feeds}
 use Rattle.feed_workers.specs.Leaps.{most_of_a_list}
 use Rattle.leap_file.specs.Rows.{bad_line}
 use Rattle.station_gear.specs.Gears.{wanted_by}
@@ -91,8 +91,8 @@ pub record IsGoodLogRun (log : LogRun) : Type 0 where
 -- a leap second file that has no fault, and that reported its bytes before and after
 pub record IsGoodList (opened back : SourceState) : Type 0 where
   pub text : List ℕ
-  pub told : opened.left ≡ Some text
-  pub tells : IsSome back.left
+  pub reported : opened.left ≡ Some text
+  pub reports : IsSome back.left
   pub no_fault : Rose opened.faults back.faults → ⊥
   pub lines : bad_line true text ≡ None
   pub most : length text ≤ most_of_a_list

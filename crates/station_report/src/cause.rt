@@ -3,7 +3,7 @@ ghost use Rattle.std.specs.Prelude.{◌≡◌, ◌+◌, ◌++◌, ◌≤◌, ◌
 ghost use Rattle.std.specs.List.{list_any};
 ghost use Rattle.std.specs.Option.{option_to_list};
 ghost use Rattle.station_report.specs.Crewing.{HasEach, HasLeast, any_full, causes_left, end_of};
-ghost use Rattle.station_report.specs.Headline.{IsTold, each_cause, full_cause, link_cause, log_cause, number_at, poll_cause};
+ghost use Rattle.station_report.specs.Headline.{IsReported, each_cause, full_cause, link_cause, log_cause, number_at, poll_cause};
 ghost use Rattle.file_commands.specs.declared.ending.Ending.{Ending};
 
 use crate::done::{Done, leap_feed};
@@ -11,7 +11,7 @@ use crew_work::LinkWork;
 use feed_workers::{LogEnd, LogWork, PollEnd, PollWork};
 use file_commands::{Ending, Subject, status_by};
 use responder::End;
-use station_config::Station;
+use station_values::Station;
 
 // The number of the status that reports an ending.
 fn number_at(ending: Ending) -> u8
@@ -164,7 +164,7 @@ fn full_cause(limit: u32, full: bool) -> Option<Ending>
 // How a run ends whose workers have left this.
 pub fn ending_of(station: &Station, done: &Done, limit: u32) -> Ending
     requires { HasEach station.now done.now }
-    ensures { IsTold (causes_left limit done.now) result }
+    ensures { IsReported (causes_left limit done.now) result }
 {
     let radios = station.radios() as u32;
     let found = with_works(None, done.work.radios.as_slice(), 0);

@@ -1,9 +1,9 @@
 //! What is left after a station's run.
 ghost use Rattle.std.specs.Prelude.{◌≡◌};
-ghost use Rattle.station_config.specs.Station.{leap_feed};
+ghost use Rattle.station_values.specs.Station.{leap_feed};
 
 use crew_work::Work;
-use station_config::Station;
+use station_values::Station;
 use verdict_journal::Journal;
 
 /// What the workers of a station have left, once its logs and links are given back.

@@ -5,15 +5,15 @@ ghost use Rattle.page_cell.specs.Claims.{of_feed};
 ghost use Rattle.station_report.specs.Crewing.{HasEach};
 ghost use Rattle.station_report.specs.DrillScaffold.{Counted, CountsFound, CountsOne, CountsUpTo, FinishesDrill, answer_found, answer_in, feed_lines, line_of_feed};
 ghost use Rattle.file_commands.specs.Reports.{Reports, status_in};
-ghost use Rattle.sink_text.specs.Writing.{WritesAll, WritesFront};
+ghost use Rattle.sink_text.specs.Writing.{WritesAll, WritesPrefix};
 
 use crate::cause::ending_of;
 use crate::done::Done;
-use feed_link::{Failed, Sink};
 use file_commands::{Line, Report, finish_page};
 use journal_entry::{Entry, LINE_ROOM, TextWriter, What};
+use outside_traits::{Failed, Sink};
 use sink_text::write_all;
-use station_config::Station;
+use station_values::Station;
 use tick_units::Kind;
 use verdict_journal::Journal;
 
@@ -122,9 +122,9 @@ fn write_feed_line(feed: u32, journal: &Journal, line: &mut Line) -> usize
 }
 
 // Writes the line of a feed.
-fn tell_feed<K: Sink>(feed: u32, journal: &Journal, out: &mut K) -> Result<(), Failed>
+fn write_feed<K: Sink>(feed: u32, journal: &Journal, out: &mut K) -> Result<(), Failed>
     ensures ok { OnOk result (WritesAll (K.state out.old) (K.state out.new) (line_of_feed feed journal.now)) }
-    ensures err { OnErr result (WritesFront (K.state out.old) (K.state out.new) (line_of_feed feed journal.now)) }
+    ensures err { OnErr result (WritesPrefix (K.state out.old) (K.state out.new) (line_of_feed feed journal.now)) }
 {
     let mut line = [0; LINE_ROOM];
     let length = write_feed_line(feed, journal, &mut line);
@@ -132,13 +132,13 @@ fn tell_feed<K: Sink>(feed: u32, journal: &Journal, out: &mut K) -> Result<(), F
 }
 
 // Writes the lines of the three feeds.
-fn tell_feeds<K: Sink>(journal: &Journal, out: &mut K) -> Result<(), Failed>
+fn write_feeds<K: Sink>(journal: &Journal, out: &mut K) -> Result<(), Failed>
     ensures ok { OnOk result (WritesAll (K.state out.old) (K.state out.new) (feed_lines journal.now.entries)) }
-    ensures err { OnErr result (WritesFront (K.state out.old) (K.state out.new) (feed_lines journal.now.entries)) }
+    ensures err { OnErr result (WritesPrefix (K.state out.old) (K.state out.new) (feed_lines journal.now.entries)) }
 {
-    tell_feed(0, journal, out)?;
-    tell_feed(1, journal, out)?;
-    tell_feed(2, journal, out)
+    write_feed(0, journal, out)?;
+    write_feed(1, journal, out)?;
+    write_feed(2, journal, out)
 }
 
 /// Writes what a drill has left: how many answers of each kind each feed got, the page of its journal, and the status line.
@@ -149,7 +149,7 @@ pub fn finish_drilled<K: Sink>(station: &Station, done: &Done, limit: u32, out: 
     ensures reports { Reports result (K.state out.old) (K.state out.new) }
 {
     let ending = ending_of(station, done, limit);
-    match tell_feeds(&done.journal, out) {
+    match write_feeds(&done.journal, out) {
         Ok(()) => finish_page(&done.journal.page(), ending, out),
         Err(Failed) => Report::Unwritten,
     }

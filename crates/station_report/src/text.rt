@@ -5,23 +5,23 @@ ghost use Rattle.station_report.specs.Crewing.{FinishesDone, HasEach, line_of_wo
 ghost use Rattle.station_report.specs.Crewing.{lines_before_page, lines_of_journal};
 ghost use Rattle.station_report.specs.Headline.{each_text, end_word, link_line};
 ghost use Rattle.file_commands.specs.Reports.{Reports, status_in};
-ghost use Rattle.sink_text.specs.Writing.{WritesAll, WritesFront};
+ghost use Rattle.sink_text.specs.Writing.{WritesAll, WritesPrefix};
 
 use crate::cause::ending_of;
 use crate::done::Done;
 use crew_work::LinkWork;
-use feed_link::{Failed, Sink};
 use file_commands::{Line, Report, finish_page, write_numbered_line};
 use journal_entry::{LINE_ROOM, TextWriter};
+use outside_traits::{Failed, Sink};
 use responder::{End, Served};
 use sink_text::write_all;
-use station_config::Station;
+use station_values::Station;
 use verdict_journal::Journal;
 
 // Writes the lines of a journal.
 fn write_journal<K: Sink>(journal: &Journal, out: &mut K) -> Result<(), Failed>
     ensures ok { OnOk result (WritesAll (K.state out.old) (K.state out.new) (lines_of_journal journal.now)) }
-    ensures err { OnErr result (WritesFront (K.state out.old) (K.state out.new) (lines_of_journal journal.now)) }
+    ensures err { OnErr result (WritesPrefix (K.state out.old) (K.state out.new) (lines_of_journal journal.now)) }
 {
     let mut line = [0; LINE_ROOM];
     for place in 0..journal.len() {
@@ -120,7 +120,7 @@ pub fn write_link_line(number: usize, work: &LinkWork, line: &mut Line) -> usize
 // Writes the lines of the links.
 fn write_links<K: Sink>(works: &[LinkWork], out: &mut K) -> Result<(), Failed>
     ensures ok { OnOk result (WritesAll (K.state out.old) (K.state out.new) (each_text line_of_work 0 works.now)) }
-    ensures err { OnErr result (WritesFront (K.state out.old) (K.state out.new) (each_text line_of_work 0 works.now)) }
+    ensures err { OnErr result (WritesPrefix (K.state out.old) (K.state out.new) (each_text line_of_work 0 works.now)) }
 {
     let mut line = [0; LINE_ROOM];
     for number in 0..works.len() {
@@ -133,7 +133,7 @@ fn write_links<K: Sink>(works: &[LinkWork], out: &mut K) -> Result<(), Failed>
 // Writes the lines of the journal and of the links.
 fn write_lines<K: Sink>(done: &Done, out: &mut K) -> Result<(), Failed>
     ensures ok { OnOk result (WritesAll (K.state out.old) (K.state out.new) (lines_before_page done.now)) }
-    ensures err { OnErr result (WritesFront (K.state out.old) (K.state out.new) (lines_before_page done.now)) }
+    ensures err { OnErr result (WritesPrefix (K.state out.old) (K.state out.new) (lines_before_page done.now)) }
 {
     write_journal(&done.journal, out)?;
     write_links(done.work.links.as_slice(), out)

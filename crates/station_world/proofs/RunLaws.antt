@@ -5,7 +5,7 @@ use Rattle.std.proofs.Math.Seq.{drop-cons}
 use Rattle.std.proofs.lemmas.List.{take-append-drop, take_all, take_more}
 use Rattle.std.proofs.lemmas.List.Elements.{All-head, All-tail}
 use Rattle.station_world.specs.Machine.{IsChained, MayCome, Rises, Station, after, reason, refusal_of}
-use Rattle.station_world.specs.Runs.{AreTaken, IsLawfulStep, MayRun, StopsAt, after_all}
+use Rattle.station_world.specs.Runs.{AreTaken, IsValidStep, MayRun, StopsAt, after_all}
 use Rattle.station_world.specs.declared.step.Step.{Step}
 use Rattle.station_world.specs.declared.step.Step.TheVariants.{Enter, Publish, Read, Tell}
 use Rattle.station_world.specs.declared.step.StepRefusal.{StepRefusal}
@@ -47,16 +47,16 @@ drop-here steps i x lt here = drop-cons steps i x lt ∙ (λ k. sym here k ∷ d
     next = omega arith
 
 may-come : (n : ℕ) (x : Step) (rest : List Step) → MayRun n (x ∷ rest) → MayCome n x
-may-come n (Enter e) rest h = (All-head IsLawfulStep (Enter e) rest h.lawful, let room = h.room in omega arith)
+may-come n (Enter e) rest h = (All-head IsValidStep (Enter e) rest h.valid, let room = h.room in omega arith)
 may-come n Publish rest h = tt
 may-come n (Read k) rest h = tt
 may-come n (Tell k m) rest h = tt
 
 may-go_on : (s : Station) (x : Step) (rest : List Step) → MayRun (length s.journal) (x ∷ rest) → MayRun (length (after s x).journal) rest
-may-go_on s (Enter e) rest h = record { lawful = All-tail IsLawfulStep (Enter e) rest h.lawful; room = let room = h.room in omega (arith, length-append s.journal (e ∷ [])) }
-may-go_on s Publish rest h = record { lawful = All-tail IsLawfulStep Publish rest h.lawful; room = h.room }
-may-go_on s (Read k) rest h = record { lawful = All-tail IsLawfulStep (Read k) rest h.lawful; room = h.room }
-may-go_on s (Tell k m) rest h = record { lawful = All-tail IsLawfulStep (Tell k m) rest h.lawful; room = h.room }
+may-go_on s (Enter e) rest h = record { valid = All-tail IsValidStep (Enter e) rest h.valid; room = let room = h.room in omega (arith, length-append s.journal (e ∷ [])) }
+may-go_on s Publish rest h = record { valid = All-tail IsValidStep Publish rest h.valid; room = h.room }
+may-go_on s (Read k) rest h = record { valid = All-tail IsValidStep (Read k) rest h.valid; room = h.room }
+may-go_on s (Tell k m) rest h = record { valid = All-tail IsValidStep (Tell k m) rest h.valid; room = h.room }
 
 -- the next step may come
 pub may-first : (s t : Station) (steps : List Step) (i : ℕ) (x : Step) → i < length steps → x ≡ get_or steps i x → RunsOn s steps i t → MayCome (length t.journal) x
@@ -77,7 +77,7 @@ runs-more s t u steps i x lt here h free is rises chained =
 -- it is refused
 pub stops-here : (s t u : Station) (steps : List Step) (i : ℕ) (x : Step) (r : StepRefusal) → i < length steps → x ≡ get_or steps i x → RunsOn s steps i t → refusal_of t x ≡ reason r → u ≡ t → StopsAt s steps r u
 stops-here s t u steps i x r lt here h why is = record {
-  front = take i steps;
+  prefix = take i steps;
   stop = x;
   rest = drop (i + 1) steps;
   steps_are = sym (take-append-drop i steps) ∙ ap (λ (l : List Step). take i steps ++ l) (drop-here steps i x lt here);

@@ -3,7 +3,7 @@
 use Rattle.std.specs.Prelude.{◌≡◌, ℕ, ◌+◌, ◌≤◌, ◌<◌, ◌^◌, ◌==◌, nat_le, nat_lt, max, Option, None, Some, List, [], ◌∷◌, ◌++◌, length, take, slice_index, slice_set, replicate, if◌then◌else◌, All, ⊤}
 use mathlib.Core.List.{IsPrefix}
 use Rattle.clock_page.specs.Page.{PageFields}
-use Rattle.journal_entry.specs.Lawful.{IsLawfulWhat}
+use Rattle.journal_entry.specs.Valid.{IsValidWhat}
 use Rattle.journal_entry.specs.declared.entry.Entry.{Entry}
 use Rattle.station_world.specs.declared.step.Step.{Step}
 use Rattle.station_world.specs.declared.step.Step.TheVariants.{Enter, Publish, Read, Tell}
@@ -72,7 +72,7 @@ pub record Rises (s t : Station) : Type 0 where
 
 -- an entry has to be valid except for its feed, and a journal has room for 2^22 of them
 abbrev pub MayCome : ℕ → Step → Type 0
-MayCome n (Enter e) = IsLawfulWhat e.what × (n < 2 ^ 22)
+MayCome n (Enter e) = IsValidWhat e.what × (n < 2 ^ 22)
 MayCome n Publish = ⊤
 MayCome n (Read k) = ⊤
 MayCome n (Tell k m) = ⊤

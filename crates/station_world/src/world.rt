@@ -1,10 +1,10 @@
 //! The machine: its state, and its steps.
 ghost use Rattle.std.specs.Prelude.{◌≡◌, ◌≤◌, ◌<◌, ◌^◌, ◌==◌, ◌++◌, ◌∷◌, [], None, Some, IfOk, IfErr, length, max, replicate, slice_index, slice_set, vec_len, All};
-ghost use Rattle.journal_entry.specs.Lawful.{IsLawfulWhat};
+ghost use Rattle.journal_entry.specs.Valid.{IsValidWhat};
 ghost use Rattle.station_world.specs.Machine.{IsChained, MayCome, Rises, after, given, published_page, reason, refusal_of, start};
 ghost use Rattle.station_world.specs.declared.step.Step.TheVariants.{Enter, Publish, Read, Tell};
 ghost use Rattle.station_world.specs.Runs.{AreTaken, MayRun, StopsAt, after_all};
-ghost use Rattle.system_fold.specs.Settings.{AreLawful};
+ghost use Rattle.system_fold.specs.Settings.{AreValid};
 
 use crate::step::{Step, StepRefusal};
 use clock_page::Page;
@@ -58,7 +58,7 @@ fn unseen(alloc: Global, readers: u32) -> Result<Vec<u64>, WorldOpen>
 impl World {
     /// The station with no entry, and with this many readers.
     pub fn new(alloc: Global, settings: &Settings, readers: u32) -> Result<World, WorldOpen>
-        requires { AreLawful settings.now }
+        requires { AreValid settings.now }
         ensures start { IfOk result (λ w. w ≡ start settings.now readers) }
         ensures chained { IfOk result IsChained }
     {
@@ -78,7 +78,7 @@ impl World {
     }
 
     fn enter(&mut self, e: &Entry) -> Result<(), StepRefusal>
-        requires what { IsLawfulWhat e.now.what }
+        requires what { IsValidWhat e.now.what }
         requires room { length self.old.journal < 2 ^ 22 }
         ensures ok { IfOk result
             (λ u. (refusal_of self.old (Enter e.now) ≡ None) × (self.new ≡ after self.old (Enter e.now))) }

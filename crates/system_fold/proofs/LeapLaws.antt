@@ -38,11 +38,11 @@ verdict-push journal e = last-push (λ (x : Entry). verdict_in x.at x.what) jour
 
 pub prefixes-push : {A : Type 0} (xs : List A) (x : A) → prefixes (xs ++ x ∷ []) ≡ prefixes xs ++ (xs ++ x ∷ []) ∷ []
 prefixes-push [] x = refl
-prefixes-push {A} (y ∷ ys) x = ap (λ (fronts : List (List A)). [] ∷ fronts) (ap (map (λ (front : List A). y ∷ front)) (prefixes-push ys x) ∙ map-append (λ (front : List A). y ∷ front) (prefixes ys) ((ys ++ x ∷ []) ∷ []))
+prefixes-push {A} (y ∷ ys) x = ap (λ (starts : List (List A)). [] ∷ starts) (ap (map (λ (prefix : List A). y ∷ prefix)) (prefixes-push ys x) ∙ map-append (λ (prefix : List A). y ∷ prefix) (prefixes ys) ((ys ++ x ∷ []) ∷ []))
 
 pub cut-push : (journal : List Entry) (e : Entry) → cut_of (journal ++ e ∷ []) ≡ max (cut_of journal) (passed (journal ++ e ∷ []))
 cut-push journal e =
-    ap (λ (fronts : List (List Entry)). greatest (map passed fronts)) (prefixes-push journal e)
+    ap (λ (starts : List (List Entry)). greatest (map passed starts)) (prefixes-push journal e)
     ∙ ap greatest (map-append passed (prefixes journal) ((journal ++ e ∷ []) ∷ []))
     ∙ greatest-push (map passed (prefixes journal)) (passed (journal ++ e ∷ []))
 
@@ -141,9 +141,9 @@ best-more {A} {B} beats g xs i d below =
     ∙ ap (best beats) (filter_map-append g (take i xs) (get_or xs i d ∷ []))
     ∙ by_found (g (get_or xs i d)) (filter_map g (take i xs))
   where
-    by_found : (y : Option B) (front : List B) → best beats (front ++ cons_option y []) ≡ best_with beats (best beats front) y
-    by_found None front = ap (best beats) (append-nil front)
-    by_found (Some y) front = fold_push (better beats) None front y
+    by_found : (y : Option B) (prefix : List B) → best beats (prefix ++ cons_option y []) ≡ best_with beats (best beats prefix) y
+    by_found None prefix = ap (best beats) (append-nil prefix)
+    by_found (Some y) prefix = fold_push (better beats) None prefix y
 
 pub armed-more : (now : ℕ) (last : Option Verdict) (words : List (Option Word)) (i : ℕ) (d : Option Word) → i < length words → armed_among now last (take (i + 1) words) ≡ best_with (λ y x. nat_lt y.moment x.moment) (armed_among now last (take i words)) (ahead_of now (leap_of last (get_or words i d)))
 armed-more now last words i d below = best-more (λ y x. nat_lt y.moment x.moment) (λ word. ahead_of now (leap_of last word)) words i d below

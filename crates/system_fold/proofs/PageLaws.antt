@@ -107,10 +107,10 @@ peer-fit now fit survivors peer all is = by_list (sources_at fit survivors) (sou
 -- so it determines their page, with the moment of the newest sample of all
 pub page-left : (inputs : PageInputs) (left : List Source) (peer : Source) (fresh : ℕ) (offset mean_offset : ℤ) (page : PageFields) → Some peer ≡ slice_get left 0 → fresh ≡ fresh_of left → offset ≡ mean_offset
     → ((others : List Source) → fresh ≡ fresh_of (peer ∷ others) → page ≡ page_from inputs (peer ∷ others) offset) → page ≡ page_from inputs left mean_offset
-page-left inputs [] peer fresh offset mean_offset page first newest is told = absurd (none-first peer first)
-page-left inputs (s ∷ others) peer fresh offset mean_offset page first newest is told =
+page-left inputs [] peer fresh offset mean_offset page first newest is reported = absurd (none-first peer first)
+page-left inputs (s ∷ others) peer fresh offset mean_offset page first newest is reported =
     let same = first-same peer s first in
-    told others (newest ∙ ap (λ (t : Source). fresh_of (t ∷ others)) (sym same)) ∙ (λ i. page_from inputs (same i ∷ others) (is i))
+    reported others (newest ∙ ap (λ (t : Source). fresh_of (t ∷ others)) (sym same)) ∙ (λ i. page_from inputs (same i ∷ others) (is i))
 
 pub none-left : (left : List Source) → None ≡ slice_get left 0 → left ≡ []
 none-left [] none = refl

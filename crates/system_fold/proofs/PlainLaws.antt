@@ -10,7 +10,7 @@ use Rattle.journal_entry.specs.declared.entry.Entry.{Entry}
 use Rattle.system_fold.specs.Feeds.{with_sample}
 use Rattle.system_fold.specs.Leaps.{word_in, verdict_in, word_of, words_of, last_verdict, passed, cut_of}
 use Rattle.system_fold.specs.Samples.{taken_in, samples_of}
-use Rattle.system_fold.specs.Settings.{SettingsFields, AreLawful, IsJournal}
+use Rattle.system_fold.specs.Settings.{SettingsFields, AreValid, IsJournal}
 use Rattle.system_fold.specs.KeptFold.{StandsForJournal, FoldFields, KeepsLeaps, feeds_of, or_older}
 use Rattle.system_fold.specs.declared.feed.Feed.{Feed}
 use Rattle.system_fold.specs.declared.leaps.Verdict.{Verdict}
@@ -59,11 +59,11 @@ pub cut-more : (journal : List Entry) (i cut next more : ℕ) → i < length jou
 cut-more [] i cut next more below was is greater = absurd (omega arith)
 cut-more (x ∷ xs) i cut next more below was is greater =
     let e = get_or (x ∷ xs) i x in
-    let front : take (i + 1) (x ∷ xs) ≡ take i (x ∷ xs) ++ e ∷ [] = take_more (x ∷ xs) i x below in
+    let prefix : take (i + 1) (x ∷ xs) ≡ take i (x ∷ xs) ++ e ∷ [] = take_more (x ∷ xs) i x below in
     greater
     ∙ ap (λ (n : ℕ). max n more) was
-    ∙ ap (max (cut_of (take i (x ∷ xs)))) (is ∙ ap passed front)
-    ∙ sym (ap cut_of front ∙ cut-push (take i (x ∷ xs)) e)
+    ∙ ap (max (cut_of (take i (x ∷ xs)))) (is ∙ ap passed prefix)
+    ∙ sym (ap cut_of prefix ∙ cut-push (take i (x ∷ xs)) e)
 
 -- the samples of a feed, with an entry of its own and with another
 pub samples-own : (kind : SourceKind) (feed : ℕ) (journal : List Entry) (e : Entry) → (e.feed == feed) ≡ true → samples_of kind feed (journal ++ e ∷ []) ≡ with_sample (samples_of kind feed journal) (taken_in kind e)
@@ -92,9 +92,9 @@ feeds-more settings journal i d below =
     place = let same : length (take i kinds) ≡ i = length-take-le i kinds (omega arith) in omega arith
 
 -- what a journal comes to stands for it
-pub stands-whole : (fold : FoldFields) (settings : SettingsFields) (journal : List Entry) → AreLawful settings → length settings.sources ≤ 16 → IsJournal settings journal → fold.bound ≡ settings.bound → fold.feeds ≡ feeds_of settings journal → KeepsLeaps fold.leaps journal → fold.length ≡ length journal
+pub stands-whole : (fold : FoldFields) (settings : SettingsFields) (journal : List Entry) → AreValid settings → length settings.sources ≤ 16 → IsJournal settings journal → fold.bound ≡ settings.bound → fold.feeds ≡ feeds_of settings journal → KeepsLeaps fold.leaps journal → fold.length ≡ length journal
     → StandsForJournal fold settings journal
-stands-whole fold settings journal lawful few entries bound feeds leaps length = record { lawful = lawful; few = few; entries = entries; bound = bound; feeds = feeds; leaps = leaps; length = length }
+stands-whole fold settings journal valid few entries bound feeds leaps length = record { valid = valid; few = few; entries = entries; bound = bound; feeds = feeds; leaps = leaps; length = length }
 
 pub feeds-push-more : (settings : SettingsFields) (seen : List SourceKind) (journal : List Entry) (i : ℕ) (d : SourceKind) (feeds more : List Feed) (feed : Feed) → i < length seen → seen ≡ settings.sources
     → feeds ≡ feeds_of (record settings { sources = take i settings.sources }) journal

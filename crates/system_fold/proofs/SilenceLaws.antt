@@ -8,7 +8,7 @@ use Rattle.system_fold.specs.Silence.{names_none}
 use Rattle.system_fold.specs.declared.leaps.Leap.{Leap}
 use Rattle.system_fold.specs.declared.leaps.Verdict.{Verdict}
 use Rattle.system_fold.specs.declared.leaps.Word.{Word}
-use Rattle.system_fold.specs.declared.leaps.Word.TheVariants.{Told, Announced}
+use Rattle.system_fold.specs.declared.leaps.Word.TheVariants.{Verified, Announced}
 
 first : (a b : Bool) → (a && b) ≡ true → a ≡ true
 first true b h = refl
@@ -26,7 +26,7 @@ both false b h i = h
 -- a word that names none
 pub silent-none : (last : Option Verdict) (word : Option Word) → names_none word ≡ true → leap_of last word ≡ None
 silent-none last None h = refl
-silent-none last (Some (Told at second leap_at)) h = by_test (leap_at == 0) (record { moment = moment_of at second leap_at; leap_at = leap_at }) h
+silent-none last (Some (Verified at second leap_at)) h = by_test (leap_at == 0) (record { moment = moment_of at second leap_at; leap_at = leap_at }) h
   where
     by_test : (b : Bool) (leap : Leap) → b ≡ true → (if b then None else Some leap) ≡ None
     by_test b leap h = ap (λ (c : Bool). if c then None else Some leap) h

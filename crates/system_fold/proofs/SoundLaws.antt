@@ -5,14 +5,14 @@ use Rattle.std.specs.List.{filter_map, cons_option, enumerate_from}
 use Rattle.std.proofs.lemmas.Int.{ints}
 use Rattle.std.proofs.lemmas.List.Elements.{All-head, All-tail, All-cons, All-nil, All-drop, All-filter}
 use Rattle.tick_units.specs.Samples.{IsLength}
-use Rattle.tick_units.specs.Samples.{IsLawful as IsLawfulSample}
+use Rattle.tick_units.specs.Samples.{IsValid as IsValidSample}
 use Rattle.tick_units.specs.Units.{local_span}
-use Rattle.tick_units.specs.Years.{first_told}
+use Rattle.tick_units.specs.Years.{first_supported}
 use Rattle.tick_units.specs.declared.verdicts.Kind.TheVariants.{Verdict, Lone, Differs, Refused}
-use Rattle.clock_filter.specs.Bounds.{AreLawful}
+use Rattle.clock_filter.specs.Bounds.{AreValid}
 use Rattle.clock_filter.specs.Held.{last_eight}
 use Rattle.clock_filter.specs.declared.taken.Taken.{Taken}
-use Rattle.journal_entry.specs.Lawful.{IsLawfulWhat, IsTold}
+use Rattle.journal_entry.specs.Valid.{IsValidWhat, IsSupported}
 use Rattle.journal_entry.specs.declared.entry.Entry.{Entry}
 use Rattle.journal_entry.specs.declared.entry.What.{What}
 use Rattle.journal_entry.specs.declared.entry.What.TheVariants.{Heard, Declined, Notice}
@@ -29,39 +29,39 @@ use Rattle.system_fold.specs.declared.settings.SourceKind.TheVariants.{Leap as L
 use Rattle.system_fold.proofs.SourceLaws.{eight-again}
 
 -- the span of a moment is less than that of any second that a frame may say
-span-below : (at second : ℕ) → at < 2 ^ 50 → first_told ≤ second → local_span at ≤ second * 2 ^ 32
+span-below : (at second : ℕ) → at < 2 ^ 50 → first_supported ≤ second → local_span at ≤ second * 2 ^ 32
 span-below at second moment least = omega arith
 
-radio-offset : (at second : ℕ) → at < 2 ^ 50 → IsTold second → IsLength (pos (second * 2 ^ 32) -ℤ pos (local_span at))
-radio-offset at second moment told =
-    let least = told.least in
-    let below = told.below in
+radio-offset : (at second : ℕ) → at < 2 ^ 50 → IsSupported second → IsLength (pos (second * 2 ^ 32) -ℤ pos (local_span at))
+radio-offset at second moment reported =
+    let least = reported.least in
+    let below = reported.below in
     let less = span-below at second moment least in
     record { least = omega (arith, ints); below = omega (arith, ints) }
 
-radio-lawful : (at second : ℕ) → at < 2 ^ 50 → IsTold second → IsLawfulSample (radio_sample at second)
-radio-lawful at second moment told = record {
-  offset = radio-offset at second moment told;
+radio-valid : (at second : ℕ) → at < 2 ^ 50 → IsSupported second → IsValidSample (radio_sample at second)
+radio-valid at second moment reported = record {
+  offset = radio-offset at second moment reported;
   delay = record { least = omega (arith, ints); below = omega (arith, ints) };
   dispersion = record { least = omega (arith, ints); below = omega (arith, ints) };
 }
 
-abbrev HasLawful : Taken → Type 0
-HasLawful x = IsLawfulSample x.sample
+abbrev HasValid : Taken → Type 0
+HasValid x = IsValidSample x.sample
 
-taken-lawful : (kind : SourceKind) (at : ℕ) (what : What) (feed : ℕ) → at < 2 ^ 50 → IsLawfulWhat what → IfSome (taken_in kind (record { feed = feed; at = at; what = what })) HasLawful
-taken-lawful (Radio plan) at (Heard (Verdict second leap_at)) feed moment lawful = radio-lawful at second moment lawful.told
-taken-lawful (Radio plan) at (Heard (Lone second)) feed moment lawful = tt
-taken-lawful (Radio plan) at (Heard (Differs before now apart)) feed moment lawful = tt
-taken-lawful (Radio plan) at (Heard (Refused rule)) feed moment lawful = tt
-taken-lawful (Radio plan) at (Measured sample) feed moment lawful = tt
-taken-lawful (Radio plan) at (Declined code) feed moment lawful = tt
-taken-lawful (Radio plan) at (Notice leap_at) feed moment lawful = tt
-taken-lawful (Server address) at (Measured sample) feed moment lawful = lawful
-taken-lawful (Server address) at (Heard kind) feed moment lawful = tt
-taken-lawful (Server address) at (Declined code) feed moment lawful = tt
-taken-lawful (Server address) at (Notice leap_at) feed moment lawful = tt
-taken-lawful LeapFile at what feed moment lawful = tt
+taken-valid : (kind : SourceKind) (at : ℕ) (what : What) (feed : ℕ) → at < 2 ^ 50 → IsValidWhat what → IfSome (taken_in kind (record { feed = feed; at = at; what = what })) HasValid
+taken-valid (Radio plan) at (Heard (Verdict second leap_at)) feed moment valid = radio-valid at second moment valid.reported
+taken-valid (Radio plan) at (Heard (Lone second)) feed moment valid = tt
+taken-valid (Radio plan) at (Heard (Differs before now apart)) feed moment valid = tt
+taken-valid (Radio plan) at (Heard (Refused rule)) feed moment valid = tt
+taken-valid (Radio plan) at (Measured sample) feed moment valid = tt
+taken-valid (Radio plan) at (Declined code) feed moment valid = tt
+taken-valid (Radio plan) at (Notice leap_at) feed moment valid = tt
+taken-valid (Server address) at (Measured sample) feed moment valid = valid
+taken-valid (Server address) at (Heard kind) feed moment valid = tt
+taken-valid (Server address) at (Declined code) feed moment valid = tt
+taken-valid (Server address) at (Notice leap_at) feed moment valid = tt
+taken-valid LeapFile at what feed moment valid = tt
 
 -- a sample has the moment of its entry
 taken-at : (kind : SourceKind) (e : Entry) (now : ℕ) → e.at ≤ now → IfSome (taken_in kind e) (λ x. x.at ≤ now)
@@ -80,9 +80,9 @@ filter_map-all {X} {Y} P Q f each (x ∷ xs) all = by_found (f x) (each x (All-h
     by_found None here rest = rest
     by_found (Some y) here rest = All-cons Q y (filter_map f xs) here rest
 
-samples-lawful : (settings : SettingsFields) (kind : SourceKind) (feed : ℕ) (journal : List Entry) → IsJournal settings journal → AreLawful (samples_of kind feed journal)
-samples-lawful settings kind feed journal all =
-    filter_map-all (IsKept (length settings.sources)) HasLawful (taken_in kind) (λ e kept. taken-lawful kind e.at e.what e.feed kept.moment kept.lawful.what) (filter (λ e. e.feed == feed) journal)
+samples-valid : (settings : SettingsFields) (kind : SourceKind) (feed : ℕ) (journal : List Entry) → IsJournal settings journal → AreValid (samples_of kind feed journal)
+samples-valid settings kind feed journal all =
+    filter_map-all (IsKept (length settings.sources)) HasValid (taken_in kind) (λ e kept. taken-valid kind e.at e.what e.feed kept.moment kept.valid.what) (filter (λ e. e.feed == feed) journal)
     (All-filter (λ e. e.feed == feed) (IsKept (length settings.sources)) journal all)
 
 -- no entry is later than now
@@ -102,7 +102,7 @@ samples-timely kind feed journal =
 one-sound : (settings : SettingsFields) (journal : List Entry) (feed : ℕ) (kind : SourceKind) → IsJournal settings journal → IsSound (now_of journal) (record { kind = kind; filter = last_eight (samples_of kind feed journal) })
 one-sound settings journal feed kind all = record {
   last = record { last = sym (eight-again (samples_of kind feed journal)) };
-  lawful = All-drop HasLawful (length (samples_of kind feed journal) - 8) (samples_of kind feed journal) (samples-lawful settings kind feed journal all);
+  valid = All-drop HasValid (length (samples_of kind feed journal) - 8) (samples_of kind feed journal) (samples-valid settings kind feed journal all);
   timely = All-drop (λ x. x.at ≤ now_of journal) (length (samples_of kind feed journal) - 8) (samples_of kind feed journal) (samples-timely kind feed journal);
 }
 

@@ -5,10 +5,10 @@ use Rattle.std.specs.List.{enumerate_from, refill}
 use Rattle.std.proofs.Math.Seq.{take-append_seam}
 use Rattle.std.proofs.lemmas.List.{length-append, take_all, take_more}
 use Rattle.std.proofs.lemmas.List.Elements.{All-cons, All-nil, All-append, All-get_or}
-use Rattle.journal_entry.specs.Lawful.{IsLawful}
+use Rattle.journal_entry.specs.Valid.{IsValid}
 use Rattle.journal_entry.specs.declared.entry.Entry.{Entry}
 use Rattle.select_core.specs.declared.chime.Candidate.{Candidate}
-use Rattle.system_fold.specs.Settings.{SettingsFields, AreLawful, IsJournal, IsKept}
+use Rattle.system_fold.specs.Settings.{SettingsFields, AreValid, IsJournal, IsKept}
 use Rattle.system_fold.specs.KeptFold.{StandsForJournal, FoldFields, IsFold, KeepsLeaps, blank, feeds_of}
 use Rattle.system_fold.specs.declared.feed.Feed.{Feed}
 use Rattle.system_fold.specs.declared.leaps.Leaps.{Leaps}
@@ -39,10 +39,10 @@ pub few : (fold : FoldFields) (fit : List Source) (sweep : List Candidate) → I
 few fold fit sweep h = few_of fold h.settings h.journal h.stands
 
 -- the state of the empty journal
-pub stands-nil : (fold : FoldFields) (settings : SettingsFields) → AreLawful settings → length settings.sources ≤ 16 → fold.bound ≡ settings.bound → fold.feeds ≡ map blank settings.sources → KeepsLeaps fold.leaps [] → fold.length ≡ 0
+pub stands-nil : (fold : FoldFields) (settings : SettingsFields) → AreValid settings → length settings.sources ≤ 16 → fold.bound ≡ settings.bound → fold.feeds ≡ map blank settings.sources → KeepsLeaps fold.leaps [] → fold.length ≡ 0
     → StandsForJournal fold settings []
-stands-nil fold settings lawful few bound feeds leaps length = record {
-  lawful = lawful;
+stands-nil fold settings valid few bound feeds leaps length = record {
+  valid = valid;
   few = few;
   entries = All-nil (IsKept _);
   bound = bound;
@@ -55,10 +55,10 @@ stands-nil fold settings lawful few bound feeds leaps length = record {
 pub stands-push : (old new : FoldFields) (settings : SettingsFields) (journal : List Entry) (e : Entry) → StandsForJournal old settings journal → IsKept (length old.feeds) e → new.bound ≡ old.bound
     → new.feeds ≡ feeds_of settings (journal ++ e ∷ []) → KeepsLeaps new.leaps (journal ++ e ∷ []) → new.length ≡ old.length + 1
     → StandsForJournal new settings (journal ++ e ∷ [])
-stands-push old new settings journal e h lawful bound feeds leaps longer = record {
-  lawful = h.lawful;
+stands-push old new settings journal e h valid bound feeds leaps longer = record {
+  valid = h.valid;
   few = h.few;
-  entries = All-append (IsKept (length settings.sources)) journal (e ∷ []) h.entries (All-cons (IsKept (length settings.sources)) e [] (subst (λ (n : ℕ). IsKept n e) same lawful) (All-nil (IsKept (length settings.sources))));
+  entries = All-append (IsKept (length settings.sources)) journal (e ∷ []) h.entries (All-cons (IsKept (length settings.sources)) e [] (subst (λ (n : ℕ). IsKept n e) same valid) (All-nil (IsKept (length settings.sources))));
   bound = bound ∙ h.bound;
   feeds = feeds;
   leaps = leaps;
@@ -78,7 +78,7 @@ pub stands-step : (old : FoldFields) (n : ℕ) (taken : List Feed) (leaps : Leap
     → ((journal : List Entry) → KeepsLeaps old.leaps journal → KeepsLeaps leaps (journal ++ e ∷ []))
     → (settings : SettingsFields) (journal : List Entry) → StandsForJournal old settings journal
     → StandsForJournal (record old { feeds = refill n old.feeds taken; leaps = leaps; length = old.length + 1 }) settings (journal ++ e ∷ [])
-stands-step old n taken leaps e same lawful takes steps settings journal h = stands-push old _ settings journal e h lawful refl feeds (steps journal h.leaps) refl
+stands-step old n taken leaps e same valid takes steps settings journal h = stands-push old _ settings journal e h valid refl feeds (steps journal h.leaps) refl
   where
     long : length taken ≡ n
     long = ap (λ (fs : List Feed). length fs) (takes settings journal h.feeds) ∙ feeds-length settings (journal ++ e ∷ []) ∙ sym (feeds-length settings journal) ∙ sym (ap (λ (fs : List Feed). length fs) h.feeds) ∙ sym same
@@ -87,8 +87,8 @@ stands-step old n taken leaps e same lawful takes steps settings journal h = sta
     feeds = refill-same n old.feeds taken long ∙ takes settings journal h.feeds
 
 -- the next entry is of one of the feeds
-pub kept-at : (fold : FoldFields) (settings : SettingsFields) (before journal : List Entry) (i : ℕ) (e : Entry) → StandsForJournal fold settings before → IsJournal settings journal → i < length journal → e ≡ get_or journal i e → IsLawful (length fold.feeds) e
-kept-at fold settings before journal i e h all below here = subst (λ (n : ℕ). IsLawful n e) (sym same) kept.lawful
+pub kept-at : (fold : FoldFields) (settings : SettingsFields) (before journal : List Entry) (i : ℕ) (e : Entry) → StandsForJournal fold settings before → IsJournal settings journal → i < length journal → e ≡ get_or journal i e → IsValid (length fold.feeds) e
+kept-at fold settings before journal i e h all below here = subst (λ (n : ℕ). IsValid n e) (sym same) kept.valid
   where
     same : length fold.feeds ≡ length settings.sources
     same = ap (λ (fs : List Feed). length fs) h.feeds ∙ feeds-length settings before

@@ -181,7 +181,7 @@ pub room-next : (cut now i : ℕ) (feeds : List Feed) (fit : List Source) (old s
     → length (others i sweep) < 16
 room-next cut now i feeds fit old sweep below most few sources standing =
     let ahead = few.upward (i + 1) in
-    let behind = sources.few in
+    let following = sources.few in
     let seen : length (take i feeds) ≡ i = length-take-le i feeds (omega arith) in
     omega (arith, ap (λ (cs : List Candidate). length cs) (others-seen cut now i feeds fit old sweep below sources standing), length-append (map (candidate_of now) fit) (from_feed (i + 1) old), length-map fit (candidate_of now))
 

@@ -36,8 +36,8 @@ abbrev pub page_dispersion : ℕ → Source → ℕ
 page_dispersion now peer = to_short (int_max (pos least_dispersion) (root_dispersion_of now peer.figures))
 
 -- the page that gives the time by the sources that are left, the first of which is the system peer, and by their mean offset
-abbrev pub told_by : PageInputs → Source → List Source → ℤ → PageFields
-told_by inputs peer others offset = record {
+abbrev pub synchronised_by : PageInputs → Source → List Source → ℤ → PageFields
+synchronised_by inputs peer others offset = record {
   length = inputs.length;
   sync = true;
   stratum = peer.figures.stratum + 1;
@@ -57,4 +57,4 @@ told_by inputs peer others offset = record {
 unfoldable pub page_from : PageInputs → List Source → ℤ → PageFields
 page_from inputs [] offset = unsynchronised inputs.length inputs.moment
 page_from inputs (peer ∷ others) offset =
-    if is_above inputs.bound (page_dispersion inputs.moment peer) 0 then unsynchronised inputs.length inputs.moment else told_by inputs peer others offset
+    if is_above inputs.bound (page_dispersion inputs.moment peer) 0 then unsynchronised inputs.length inputs.moment else synchronised_by inputs peer others offset

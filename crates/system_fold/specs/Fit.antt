@@ -2,7 +2,7 @@
 use Rattle.std.specs.Prelude.{◌≡◌, ℕ, ◌-◌, ◌^◌, ◌≤◌, ◌<◌, nat_le, Option, None, Some, List, All, filter, length, slice_index_or, pos, ◌≤ℤ◌, if◌then◌else◌}
 use Rattle.std.specs.List.{filter_map, enumerate_from}
 use Rattle.std.specs.Option.{option_map}
-use Rattle.clock_filter.specs.Bounds.{AreLawful, IsMeasured}
+use Rattle.clock_filter.specs.Bounds.{AreValid, IsMeasured}
 use Rattle.clock_filter.specs.Distance.{distance_of, is_fit_at}
 use Rattle.clock_filter.specs.Figures.{figures_of}
 use Rattle.clock_filter.specs.Held.{StandsFor, held}
@@ -16,7 +16,7 @@ use Rattle.system_fold.specs.declared.source.Source.{Source}
 -- what is kept of a feed: its last samples, which are valid and from no later than now
 pub record IsSound (now : ℕ) (feed : Feed) : Type 0 where
   pub last : StandsFor feed.filter feed.filter
-  pub lawful : AreLawful feed.filter
+  pub valid : AreValid feed.filter
   pub timely : All (λ x. x.at ≤ now) feed.filter
 
 abbrev pub if_fit : ℕ → Option Source → Option Source

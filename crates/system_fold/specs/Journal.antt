@@ -10,4 +10,4 @@ now_of journal = greatest (map (λ e. e.at) journal)
 -- the prefixes of a list, the empty one first and the whole one last
 abbrev pub prefixes : {A : Type 0} → List A → List (List A)
 prefixes [] = [] ∷ []
-prefixes (x ∷ xs) = [] ∷ map (λ front. x ∷ front) (prefixes xs)
+prefixes (x ∷ xs) = [] ∷ map (λ prefix. x ∷ prefix) (prefixes xs)

@@ -10,7 +10,7 @@ use Rattle.system_fold.specs.Journal.{now_of}
 use Rattle.system_fold.specs.Leaps.{word_in, verdict_in, words_of, last_verdict, passed_among, cut_of}
 use Rattle.system_fold.specs.Samples.{samples_of}
 use Rattle.system_fold.specs.Selecting.{candidate_of}
-use Rattle.system_fold.specs.Settings.{SettingsFields, AreLawful, IsJournal}
+use Rattle.system_fold.specs.Settings.{SettingsFields, AreValid, IsJournal}
 use Rattle.system_fold.specs.declared.feed.Feed.{Feed}
 use Rattle.system_fold.specs.declared.fold.FoldState.TheInside.{Inside}
 use Rattle.system_fold.specs.declared.leaps.Leaps.{Leaps}
@@ -45,7 +45,7 @@ kept_by fold = record { bound = fold.bound; feeds = fold.feeds.items; leaps = fo
 
 -- a fold stands for valid settings and a journal of valid entries
 pub record StandsForJournal (fold : FoldFields) (settings : SettingsFields) (journal : List Entry) : Type 0 where
-  pub lawful : AreLawful settings
+  pub valid : AreValid settings
   pub few : length settings.sources ≤ 16
   pub entries : IsJournal settings journal
   pub bound : fold.bound ≡ settings.bound

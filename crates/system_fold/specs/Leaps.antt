@@ -16,11 +16,11 @@ use Rattle.system_fold.specs.Journal.{now_of, prefixes}
 use Rattle.system_fold.specs.declared.leaps.Leap.{Leap}
 use Rattle.system_fold.specs.declared.leaps.Verdict.{Verdict}
 use Rattle.system_fold.specs.declared.leaps.Word.{Word}
-use Rattle.system_fold.specs.declared.leaps.Word.TheVariants.{Told, Announced}
+use Rattle.system_fold.specs.declared.leaps.Word.TheVariants.{Verified, Announced}
 
 -- the announcement that an entry makes: only a Verdict and a Notice announce leap seconds
 abbrev pub word_in : ℕ → What → Option Word
-word_in at (Heard (Agreed second leap_at)) = Some (Told at second leap_at)
+word_in at (Heard (Agreed second leap_at)) = Some (Verified at second leap_at)
 word_in at (Heard (Refused rule)) = None
 word_in at (Heard (Lone second)) = None
 word_in at (Heard (Differs before now apart)) = None
@@ -58,7 +58,7 @@ moment_of at second leap_at = (at + leap_at * 10 ^ 6) - second * 10 ^ 6
 -- where the leap second was over before the second of that Verdict.
 abbrev pub leap_of : Option Verdict → Option Word → Option Leap
 leap_of last None = None
-leap_of last (Some (Told at second leap_at)) = if leap_at == 0 then None else Some (record { moment = moment_of at second leap_at; leap_at = leap_at })
+leap_of last (Some (Verified at second leap_at)) = if leap_at == 0 then None else Some (record { moment = moment_of at second leap_at; leap_at = leap_at })
 leap_of None (Some (Announced leap_at)) = None
 leap_of (Some v) (Some (Announced leap_at)) = if leap_at == 0 || nat_lt leap_at v.second then None else Some (record { moment = moment_of v.at v.second leap_at; leap_at = leap_at })
 

@@ -7,13 +7,13 @@ use Rattle.system_fold.specs.Page.{page_of}
 use Rattle.system_fold.specs.Settings.{SettingsFields}
 
 -- an entry after those before it: its number counts from 1, and the rate is that of the page of all up to it
-abbrev pub numbered_behind : SettingsFields → List Entry → Entry → Numbered
-numbered_behind settings before e = record { length = length before + 1; rate = (page_of settings (before ++ e ∷ [])).rate; entry = e }
+abbrev pub numbered_next : SettingsFields → List Entry → Entry → Numbered
+numbered_next settings before e = record { length = length before + 1; rate = (page_of settings (before ++ e ∷ [])).rate; entry = e }
 
 -- more entries after those before them
 abbrev pub numbered_after : SettingsFields → List Entry → List Entry → List Numbered
 numbered_after settings before [] = []
-numbered_after settings before (e ∷ more) = numbered_behind settings before e ∷ numbered_after settings (before ++ e ∷ []) more
+numbered_after settings before (e ∷ more) = numbered_next settings before e ∷ numbered_after settings (before ++ e ∷ []) more
 
 -- the entries of a journal
 abbrev pub numbered : SettingsFields → List Entry → List Numbered

@@ -1,7 +1,7 @@
 -- What makes a page besides its journal, and the rules for journals and settings. All of it is this project's own.
 use Rattle.std.specs.Prelude.{◌≡◌, ℕ, ◌*◌, ◌≤◌, ◌<◌, ◌^◌, List, All, length}
 use Rattle.tick_units.specs.Units.{local_span}
-use Rattle.journal_entry.specs.Lawful.{IsLawful}
+use Rattle.journal_entry.specs.Valid.{IsValid}
 use Rattle.journal_entry.specs.declared.entry.Entry.{Entry}
 use Rattle.system_fold.specs.declared.settings.SourceKind.{SourceKind}
 
@@ -15,7 +15,7 @@ abbrev pub bound_of : ℕ → ℕ
 bound_of milliseconds = local_span (1000 * milliseconds)
 
 -- the bound is a whole number of milliseconds, 1 to 16000
-pub record AreLawful (settings : SettingsFields) : Type 0 where
+pub record AreValid (settings : SettingsFields) : Type 0 where
   pub milliseconds : ℕ
   pub least : 1 ≤ milliseconds
   pub most : milliseconds ≤ 16000
@@ -23,7 +23,7 @@ pub record AreLawful (settings : SettingsFields) : Type 0 where
 
 -- an entry as receivers and pollers make them, of one of this many feeds
 pub record IsKept (feeds : ℕ) (e : Entry) : Type 0 where
-  pub lawful : IsLawful feeds e
+  pub valid : IsValid feeds e
   pub moment : e.at < 2 ^ 50
 
 abbrev pub IsJournal : SettingsFields → List Entry → Type 0

@@ -2,7 +2,7 @@
 ghost use Rattle.std.specs.Prelude.{◌≡◌, ◌<◌, ◌++◌, ◌∷◌, [], List, Option};
 ghost use Rattle.clock_filter.specs.Held as filters;
 ghost use Rattle.clock_filter.specs.declared.taken.Taken.{Taken};
-ghost use Rattle.journal_entry.specs.Lawful.{IsLawfulWhat};
+ghost use Rattle.journal_entry.specs.Valid.{IsValidWhat};
 ghost use Rattle.system_fold.specs.Feeds.{with_sample};
 ghost use Rattle.system_fold.specs.Samples.{taken_in};
 
@@ -38,7 +38,7 @@ impl Feed {
 
     /// Takes the sample that an entry is, if it is one.
     pub fn take(&mut self, e: &Entry)
-        requires { IsLawfulWhat e.now.what }
+        requires { IsValidWhat e.now.what }
         ensures kind { self.new.kind ≡ self.old.kind }
         ensures filter { (samples : List Taken) → filters.StandsFor self.old.filter samples →
             filters.StandsFor self.new.filter (with_sample samples (taken_in self.old.kind e.now)) }

@@ -1,10 +1,10 @@
 //! What is kept of a journal, entry by entry.
 ghost use Rattle.std.specs.Prelude.{◌≡◌, ◌<◌, ◌≤◌, ◌^◌, ◌++◌, ◌∷◌, [], List, length, map};
 ghost use Rattle.arrayvec.specs.ArrayVec.{array_vec_len};
-ghost use Rattle.journal_entry.specs.Lawful.{IsLawful, IsLawfulWhat};
+ghost use Rattle.journal_entry.specs.Valid.{IsValid, IsValidWhat};
 ghost use Rattle.journal_entry.specs.declared.entry.Entry.{Entry};
 ghost use Rattle.system_fold.specs.Page.{page_of};
-ghost use Rattle.system_fold.specs.Settings.{AreLawful, SettingsFields};
+ghost use Rattle.system_fold.specs.Settings.{AreValid, SettingsFields};
 ghost use Rattle.system_fold.specs.KeptFold.{StandsForJournal, blank, feeds_of};
 
 use crate::feed::Feed;
@@ -76,7 +76,7 @@ fn look_all_from(feeds: &mut [Feed], cut: u64)
 // Takes the sample that an entry is, if it is one, for the entry's feed.
 fn take_sample(feeds: &mut [Feed], e: &Entry, before: u64, cut: u64)
     requires feed { e.now.feed < length feeds.old }
-    requires what { IsLawfulWhat e.now.what }
+    requires what { IsValidWhat e.now.what }
     ensures { (settings : SettingsFields) (journal : List Entry) → feeds.old ≡ feeds_of settings journal →
         feeds.new ≡ feeds_of settings (journal ++ e.now ∷ []) }
 {
@@ -87,7 +87,7 @@ fn take_sample(feeds: &mut [Feed], e: &Entry, before: u64, cut: u64)
 impl FoldState {
     /// The state of the empty journal.
     pub fn new(settings: &Settings) -> FoldState
-        requires { AreLawful settings.now }
+        requires { AreValid settings.now }
         ensures { StandsForJournal result settings.now [] }
     {
         FoldState {
@@ -102,7 +102,7 @@ impl FoldState {
 
     /// Takes the next entry. A journal has at most 2^22 of them.
     pub fn step(&mut self, e: &Entry)
-        requires lawful { IsLawful (length self.old.feeds) e.now }
+        requires valid { IsValid (length self.old.feeds) e.now }
         requires room { self.old.length < 2 ^ 22 }
         ensures { (settings : SettingsFields) (journal : List Entry) → StandsForJournal self.old settings journal →
             StandsForJournal self.new settings (journal ++ e.now ∷ []) }

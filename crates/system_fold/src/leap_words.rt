@@ -34,7 +34,7 @@ fn names_none(word: &Option<Word>) -> bool
 {
     match word {
         None => true,
-        Some(Word::Told { leap_at, .. }) => *leap_at == 0,
+        Some(Word::Verified { leap_at, .. }) => *leap_at == 0,
         Some(Word::Announced { leap_at }) => *leap_at == 0,
     }
 }
@@ -79,7 +79,7 @@ impl Words {
     }
 
     /// The words that have to be read: none where none of them names a leap second, which is the common case, and else all.
-    pub fn telling(&self) -> &[Option<Word>]
+    pub fn announcing(&self) -> &[Option<Word>]
         ensures passed { (now : ℕ) (last : Option Verdict) →
             passed_among now last result.now ≡ passed_among now last self.now }
         ensures armed { (now : ℕ) (last : Option Verdict) →

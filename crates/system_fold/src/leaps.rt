@@ -13,7 +13,7 @@ use tick_units::{Kind, Local};
 #[derive(Clone, Copy)]
 pub enum Word {
     /// A radio's verdict: its moment, its second, and the second at which the leap second ends, or 0.
-    Told {
+    Verified {
         at: Local,
         second: u64,
         leap_at: u64,
@@ -52,7 +52,7 @@ pub fn word_said(at: Local, what: &What) -> Option<Word>
     ensures { result ≡ word_in at what.now }
 {
     match what {
-        What::Heard(Kind::Verdict { second, leap_at }) => Some(Word::Told {
+        What::Heard(Kind::Verdict { second, leap_at }) => Some(Word::Verified {
             at,
             second: *second,
             leap_at: *leap_at,
@@ -94,7 +94,7 @@ fn leap_named(verdict: &Option<Verdict>, word: &Option<Word>) -> Option<Leap>
     match word {
         None => None,
         Some(
-            Word::Told {
+            Word::Verified {
                 at,
                 second,
                 leap_at,
@@ -235,13 +235,13 @@ impl Leaps {
         self.note_word(e);
         self.note_verdict(e);
         self.latest = later(self.latest, e.at);
-        self.cut = self.cut.max(last_passed(self.latest, &self.verdict, self.words.telling()));
+        self.cut = self.cut.max(last_passed(self.latest, &self.verdict, self.words.announcing()));
     }
 
     /// The leap second that is armed.
     pub fn armed(&self) -> Option<Leap>
         ensures { (journal : List Entry) → KeepsLeaps self.now journal → result ≡ armed_of journal }
     {
-        next_ahead(self.latest, &self.verdict, self.words.telling())
+        next_ahead(self.latest, &self.verdict, self.words.announcing())
     }
 }

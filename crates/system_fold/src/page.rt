@@ -54,14 +54,20 @@ fn root_disp_of(peer: &Source, now: Local) -> Short
 }
 
 // The page that gives the time by the sources that are left.
-fn told_by(inputs: &PageInputs, peer: &Source, fresh: Local, root_disp: Short, offset: Span) -> Page
+fn synchronised_by(
+    inputs: &PageInputs,
+    peer: &Source,
+    fresh: Local,
+    root_disp: Short,
+    offset: Span,
+) -> Page
     requires inputs { AreBounded inputs.now }
     requires peer { IsFit inputs.now.moment peer.now }
     requires offset { IsLength offset }
     requires root_disp { root_disp.0 ≡ pages.page_dispersion inputs.now.moment peer.now }
     requires within { is_above inputs.now.bound root_disp.0 0 ≡ false }
     ensures { (others : List Source) → fresh ≡ fresh_of (peer.now ∷ others) →
-        result ≡ pages.told_by inputs.now peer.now others offset }
+        result ≡ pages.synchronised_by inputs.now peer.now others offset }
 {
     Page {
         length: inputs.length,
@@ -93,7 +99,7 @@ pub fn page_from(inputs: &PageInputs, peer: &Source, fresh: Local, offset: Span)
     if inputs.is_above(root_disp) {
         inputs.unsynchronised()
     } else {
-        told_by(inputs, peer, fresh, root_disp, offset)
+        synchronised_by(inputs, peer, fresh, root_disp, offset)
     }
 }
 

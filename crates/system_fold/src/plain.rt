@@ -1,13 +1,13 @@
 //! The page of a journal by the definition: from the whole list of entries, with nothing kept between them. It is slow.
 ghost use Rattle.std.specs.Prelude.{◌≡◌, ◌<◌, ◌≤◌, ◌==◌, ◌++◌, ◌∷◌, [], All, List, length, if◌then◌else◌};
 ghost use Rattle.clock_filter.specs.Held as filters;
-ghost use Rattle.journal_entry.specs.Lawful.{IsLawfulWhat};
+ghost use Rattle.journal_entry.specs.Valid.{IsValidWhat};
 ghost use Rattle.journal_entry.specs.declared.entry.Entry.{Entry};
 ghost use Rattle.system_fold.specs.Journal as journals;
 ghost use Rattle.system_fold.specs.Leaps as words;
 ghost use Rattle.system_fold.specs.Page.{page_of};
 ghost use Rattle.system_fold.specs.Samples.{samples_of};
-ghost use Rattle.system_fold.specs.Settings.{AreLawful, IsJournal};
+ghost use Rattle.system_fold.specs.Settings.{AreValid, IsJournal};
 ghost use Rattle.system_fold.specs.KeptFold as standing;
 ghost use Rattle.system_fold.specs.KeptFold.{KeepsLeaps, or_older};
 
@@ -111,7 +111,7 @@ fn leaps_of(journal: &[Entry]) -> Leaps
 
 // Takes the sample that an entry is, if it is one of this feed.
 fn take_own(feed: &mut Feed, number: u32, e: &Entry)
-    requires { IsLawfulWhat e.now.what }
+    requires { IsValidWhat e.now.what }
     ensures kind { feed.new.kind ≡ feed.old.kind }
     ensures filter { (journal : List Entry) →
         filters.StandsFor feed.old.filter (samples_of feed.old.kind number journal) →
@@ -124,7 +124,7 @@ fn take_own(feed: &mut Feed, number: u32, e: &Entry)
 
 // A feed with its last eight samples.
 fn feed_of(journal: &[Entry], number: u32, kind: SourceKind) -> Feed
-    requires { All (λ e. IsLawfulWhat e.what) journal.now }
+    requires { All (λ e. IsValidWhat e.what) journal.now }
     ensures { result ≡ record { kind = kind; filter = filters.last_eight (samples_of kind number journal.now) } }
 {
     let mut feed = Feed::new(kind);
@@ -150,7 +150,7 @@ fn feeds_of(settings: &Settings, journal: &[Entry]) -> ArrayVec<Feed, 16>
 
 /// The page of a journal.
 pub fn page_from_scratch(settings: &Settings, journal: &[Entry]) -> Page
-    requires settings { AreLawful settings.now }
+    requires settings { AreValid settings.now }
     requires entries { IsJournal settings.now journal.now }
     ensures { result ≡ page_of settings.now journal.now }
 {

@@ -3,7 +3,7 @@ ghost use Rattle.std.specs.Prelude.{◌≡◌, ◌++◌, ◌∷◌, [], ◌<◌,
 ghost use Rattle.system_fold.specs.Settings.{SettingsFields, bound_of};
 
 use arrayvec::ArrayVec;
-use feed_link::Address;
+use outside_traits::Address;
 use std::marker::Model;
 use tick_units::Plan;
 

@@ -1,7 +1,7 @@
 //! The samples of a source, and what they say.
 ghost use Rattle.std.specs.Prelude.{◌≡◌, ◌<◌, ◌≤◌};
-ghost use Rattle.journal_entry.specs.Lawful.{IsLawfulWhat};
-ghost use Rattle.tick_units.specs.Years.{end_of_told};
+ghost use Rattle.journal_entry.specs.Valid.{IsValidWhat};
+ghost use Rattle.tick_units.specs.Years.{end_of_supported};
 ghost use Rattle.system_fold.specs.Samples as samples;
 
 use crate::SourceKind;
@@ -46,7 +46,7 @@ impl Default for Source {
 
 // The sample of a radio that says that a second began at a moment.
 fn radio_sample(at: Local, second: u64) -> Sample
-    requires { second < end_of_told }
+    requires { second < end_of_supported }
     ensures { result ≡ samples.radio_sample at second }
 {
     Sample {
@@ -62,7 +62,7 @@ fn radio_sample(at: Local, second: u64) -> Sample
 
 // The sample that an entry is of a feed of this kind.
 pub fn taken_in(kind: SourceKind, e: &Entry) -> Option<Taken>
-    requires { IsLawfulWhat e.now.what }
+    requires { IsValidWhat e.now.what }
     ensures { result ≡ samples.taken_in kind e.now }
 {
     let sample = match (kind, e.what) {

@@ -2,10 +2,10 @@
 ghost use Rattle.memory_links.specs.Memory.{sure_state};
 
 use crate::shared::{same, same_for};
-use feed_link::{Failed, Source};
 use file_reader::{FileEnd, FileReader, Pulled, read_whole};
 use memory_links::SureSource;
 use memory_outside::MemorySource;
+use outside_traits::{Failed, Source};
 use std::alloc::{AllocError, Global};
 use std::process::Abort;
 

@@ -53,7 +53,7 @@ fn are_texts_of_a_radio(rt: &impl Abort, table: &[(&str, u64, Kind)]) {
 }
 
 #[test]
-fn what_a_radio_told(rt: HostRuntime) {
+fn what_a_radio_reported(rt: HostRuntime) {
     are_texts_of_a_radio(&rt, &OF_A_RADIO);
 }
 
@@ -76,7 +76,7 @@ fn is_entry(rt: &impl Abort, text: &str, feed: u32, at: u64, what: What) {
 }
 
 #[test]
-fn what_a_server_told(rt: HostRuntime) {
+fn what_a_server_reported(rt: HostRuntime) {
     is_entry(
         &rt,
         "0 1010000 sample 17077897383243199545 40802189 8837 2 7f000001 256 512",

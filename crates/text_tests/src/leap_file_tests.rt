@@ -5,13 +5,13 @@ use std::process::Abort;
 
 // What a file says: how many leap seconds, the last of them, and the first bad line.
 #[derive(Clone, Copy, Debug, PartialEq, Eq)]
-struct Told {
+struct Reported {
     count: u32,
     last: Option<u64>,
     bad: Option<u64>,
 }
 
-impl Told {
+impl Reported {
     fn add(&mut self, answer: Result<Option<u64>, BadLeap>) {
         match answer {
             Ok(Some(second)) => {
@@ -25,29 +25,29 @@ impl Told {
 }
 
 // The bytes of a file, whose end is not read.
-fn begun(reader: &mut LeapReader, file: &[u8]) -> Told {
-    let mut told = Told {
+fn begun(reader: &mut LeapReader, file: &[u8]) -> Reported {
+    let mut reported = Reported {
         count: 0,
         last: None,
         bad: None,
     };
     for byte in file {
-        told.add(reader.take(*byte));
+        reported.add(reader.take(*byte));
     }
-    told
+    reported
 }
 
 // The whole file.
-fn read(file: &[u8]) -> Told {
+fn read(file: &[u8]) -> Reported {
     let mut reader = LeapReader::new();
-    let mut told = begun(&mut reader, file);
-    told.add(reader.finish());
-    told
+    let mut reported = begun(&mut reader, file);
+    reported.add(reader.finish());
+    reported
 }
 
 // A file without a bad line that names this many leap seconds.
-fn good(count: u32, last: Option<u64>) -> Told {
-    Told {
+fn good(count: u32, last: Option<u64>) -> Reported {
+    Reported {
         count,
         last,
         bad: None,
@@ -55,8 +55,8 @@ fn good(count: u32, last: Option<u64>) -> Told {
 }
 
 // A file that names no leap second before its bad line.
-fn bad(line: u64) -> Told {
-    Told {
+fn bad(line: u64) -> Reported {
+    Reported {
         count: 0,
         last: None,
         bad: Some(line),
@@ -64,14 +64,14 @@ fn bad(line: u64) -> Told {
 }
 
 // The file says this.
-fn says(rt: &impl Abort, file: &[u8], told: Told) {
-    same_for(rt, &file, read(file), told);
+fn says(rt: &impl Abort, file: &[u8], reported: Reported) {
+    same_for(rt, &file, read(file), reported);
 }
 
 // Each file without a bad line says this.
-fn all_say(rt: &impl Abort, files: &[&[u8]], told: Told) {
+fn all_say(rt: &impl Abort, files: &[&[u8]], reported: Reported) {
     for file in files {
-        says(rt, file, told);
+        says(rt, file, reported);
     }
 }
 
@@ -99,7 +99,7 @@ const FIRST_ROWS: [(&[u8], u32, Option<u64>); 2] = [
 ];
 
 #[test]
-fn the_first_row_tells_of_no_leap_second(rt: HostRuntime) {
+fn the_first_row_reports_of_no_leap_second(rt: HostRuntime) {
     are_good(&rt, &FIRST_ROWS);
 }
 
@@ -226,13 +226,13 @@ const FOURTH_IS_BAD: &[u8] =
     b"# list\n2272060800 10\n2287785600 11\nx\n2303683200 12\n2335219200 13";
 
 #[test]
-fn the_first_bad_line_is_told_from_then_on(rt: HostRuntime) {
+fn the_first_bad_line_is_reported_from_then_on(rt: HostRuntime) {
     let mut reader = LeapReader::new();
-    let told = begun(&mut reader, FOURTH_IS_BAD);
+    let reported = begun(&mut reader, FOURTH_IS_BAD);
     same(
         &rt,
-        told,
-        Told {
+        reported,
+        Reported {
             count: 1,
             last: Some(2287785600),
             bad: Some(4),
@@ -247,8 +247,8 @@ fn the_first_bad_line_is_told_from_then_on(rt: HostRuntime) {
 // The file names nothing as far as it is read, and this at its end.
 fn ends(rt: &impl Abort, file: &[u8], end: Result<Option<u64>, BadLeap>) {
     let mut reader = LeapReader::new();
-    let told = begun(&mut reader, file);
-    same_for(rt, &file, (told, reader.finish()), (good(0, None), end));
+    let reported = begun(&mut reader, file);
+    same_for(rt, &file, (reported, reader.finish()), (good(0, None), end));
 }
 
 fn end_in_a_bad_line(rt: &impl Abort, files: &[&[u8]]) {

@@ -93,7 +93,7 @@ fn are_found(rt: &impl Abort, found: Result<usize, &'static str>, count: usize) 
 }
 
 #[test]
-fn the_published_list_tells_of_27_leap_seconds(rt: HostRuntime) {
+fn the_published_list_reports_of_27_leap_seconds(rt: HostRuntime) {
     let mut found = [0; 28];
     let mut reader = LeapReader::new();
     are_found(&rt, take_piece(&mut reader, HEAD, &mut found, 0), 0);

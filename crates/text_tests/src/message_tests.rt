@@ -120,7 +120,7 @@ fn look_at_all(rt: &impl Abort, alloc: Global, rows: &str) {
 }
 
 #[test]
-fn arguments_that_ask_for_nothing_are_told(rt: HostRuntime) {
+fn arguments_that_ask_for_nothing_are_reported(rt: HostRuntime) {
     look_at_all(&rt, rt.alloc(), ARGUMENTS);
 }
 
@@ -405,7 +405,7 @@ fn a_bad_line_is_shown(rt: HostRuntime) {
 }
 
 #[test]
-fn arguments_that_are_no_text_are_told(rt: HostRuntime) {
+fn arguments_that_are_no_text_are_reported(rt: HostRuntime) {
     let message = Message {
         arguments: None,
         outcome: outcome_of(Report::Ended(Ending::WrongWords)),

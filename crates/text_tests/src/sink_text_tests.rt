@@ -2,8 +2,8 @@
 ghost use Rattle.memory_links.specs.Memory.{sink_state};
 
 use crate::shared::same;
-use feed_link::{Failed, Sink};
 use memory_links::MemorySink;
+use outside_traits::{Failed, Sink};
 use sink_text::write_all;
 use std::alloc::{AllocError, Global};
 use std::process::Abort;
@@ -37,7 +37,7 @@ fn are_held(
 }
 
 #[test]
-fn a_text_is_written_whole_and_stands_behind_the_one_before(rt: HostRuntime) {
+fn a_text_is_written_whole_and_stands_after_the_one_before(rt: HostRuntime) {
     let texts = ["one", "", " two"];
     are_held(&rt, rt.alloc(), &texts, &[], b"one two", None);
 }

@@ -53,16 +53,16 @@ pub record Spells (line : List ℕ) (r : Reduction) : Type 0 where
 
 -- of what lines say, the reductions before the first bad line. A bad line says none, or one that does not start after that of the
 -- line before it.
-abbrev pub lawful : List (Option Reduction) → List Reduction
-lawful [] = []
-lawful (None ∷ more) = []
-lawful (Some r ∷ []) = r ∷ []
-lawful (Some r ∷ None ∷ more) = r ∷ []
-lawful (Some r ∷ Some next ∷ more) = if nat_lt r.at next.at then r ∷ lawful (Some next ∷ more) else r ∷ []
+abbrev pub valid : List (Option Reduction) → List Reduction
+valid [] = []
+valid (None ∷ more) = []
+valid (Some r ∷ []) = r ∷ []
+valid (Some r ∷ None ∷ more) = r ∷ []
+valid (Some r ∷ Some next ∷ more) = if nat_lt r.at next.at then r ∷ valid (Some next ∷ more) else r ∷ []
 
 -- the reductions of the complete lines before the first bad line
 abbrev pub pulses : List ℕ → List Reduction
-pulses bytes = lawful (map reduction_of (lines_of bytes).complete)
+pulses bytes = valid (map reduction_of (lines_of bytes).complete)
 
 -- the number, from 1, of the first bad line; an unfinished one counts only where it has 32 bytes or more
 abbrev pub bad_line : List ℕ → Option ℕ

@@ -7,7 +7,7 @@ pub record IsLength (span : ℤ) : Type 0 where
   pub least : pos 0 ≤ℤ span
   pub below : span <ℤ pos (2 ^ 66)
 
-pub record IsLawful (s : Sample) : Type 0 where
+pub record IsValid (s : Sample) : Type 0 where
   pub offset : IsLength s.offset
   pub delay : IsLength s.delay
   pub dispersion : IsLength s.dispersion

@@ -5,15 +5,15 @@ use Rattle.std.specs.Prelude.{◌≢◌, ℕ, ◌<◌, ◌≤◌}
 use Rattle.tick_units.specs.declared.verdicts.Coded.{Coded}
 
 -- 1999-12-31 00:00 UTC
-abbrev pub first_told : ℕ
-first_told = 3155587200
+abbrev pub first_supported : ℕ
+first_supported = 3155587200
 
 -- 2100-01-03 00:00 UTC, the first second after the supported years
-abbrev pub end_of_told : ℕ
-end_of_told = 6311606400
+abbrev pub end_of_supported : ℕ
+end_of_supported = 6311606400
 
 abbrev pub IsInYears : ℕ → Type 0
-IsInYears second = (first_told ≤ second) × (second < end_of_told)
+IsInYears second = (first_supported ≤ second) × (second < end_of_supported)
 
 -- a minute, and its leap second where it has one
 pub record HasYears (second leap_at : ℕ) : Type 0 where

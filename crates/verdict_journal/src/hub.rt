@@ -1,9 +1,9 @@
 //! The hub: the shared page, and the journal behind its lock.
 ghost use Rattle.std.specs.Prelude.{◌≡◌, ◌<◌, ◌≤◌, [], length, IfOk, IfErr, All};
-ghost use Rattle.journal_entry.specs.Lawful.{IsLawful};
+ghost use Rattle.journal_entry.specs.Valid.{IsValid};
 ghost use Rattle.page_cell.specs.Claims.{IsTrueOf};
 ghost use Rattle.page_cell.specs.Passes.{key_of, claim_of};
-ghost use Rattle.system_fold.specs.Settings.{AreLawful, IsJournal};
+ghost use Rattle.system_fold.specs.Settings.{AreValid, IsJournal};
 ghost use Rattle.verdict_journal.specs.Journals.{Appends, FindsFull, HasRead, IsSamePass};
 
 use crate::journal::Journal;
@@ -78,7 +78,7 @@ impl<N: HubName> Hub<N> {
     ) -> Result<HubParts<N>, HubOpen>
         requires cell { (parts.cell.table ≡ N.table) × (parts.baton.table ≡ N.table) }
         requires settings { (key_of parts.baton.view ≡ settings.now) × (settings.now ≡ N.settings) }
-        requires lawful { AreLawful settings.now }
+        requires valid { AreValid settings.now }
         requires fresh { parts.baton.view.list ≡ [] }
         requires limit { (limit ≡ N.limit) × (0 < limit) × (limit ≤ 4194304) }
         ensures passes { IfOk result
@@ -123,7 +123,7 @@ impl<N: HubName> Hub<N> {
     pub fn append<R: Wait>(&self, rt: &R, f: &mut FeedPass, e: Entry) -> Result<u64, Full>
         requires pass { f.old.table ≡ N.table }
         requires feed { e.feed ≡ (claim_of f.old.view).number }
-        requires lawful { IsLawful (length N.settings.sources) e }
+        requires valid { IsValid (length N.settings.sources) e }
         ensures pass { IsSamePass f.old f.new }
         ensures ok { IfOk result (λ n. Appends e n N.limit f.old f.new) }
         ensures full { IfErr result (λ x. (x.limit ≡ N.limit) × FindsFull N.limit f.old f.new) }
@@ -138,7 +138,7 @@ impl<N: HubName> Hub<N> {
         ensures settings { result.settings ≡ N.settings }
         ensures limit { result.limit ≡ N.limit }
         ensures within { length result.entries ≤ N.limit }
-        ensures lawful { IsJournal result.settings result.entries }
+        ensures valid { IsJournal result.settings result.entries }
         ensures feeds { All (λ f. IsTrueOf result.entries (claim_of f.view)) feeds.items }
         ensures readers { All (λ r. HasRead result.settings result.entries r.view) readers.items }
     {

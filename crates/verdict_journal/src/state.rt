@@ -1,7 +1,7 @@
 //! What is behind the hub's lock, and how to put an entry into it.
 ghost use Rattle.std.specs.Prelude.{◌≡◌, ◌<◌, ◌≤◌, ◌++◌, ◌∷◌, [], length, IfOk, IfErr};
 ghost use mathlib.Core.List.{IsPrefix};
-ghost use Rattle.journal_entry.specs.Lawful.{IsLawful};
+ghost use Rattle.journal_entry.specs.Valid.{IsValid};
 ghost use Rattle.page_cell.specs.Passes.{claim_of};
 ghost use Rattle.verdict_journal.specs.Journals.{IsSamePass};
 
@@ -49,7 +49,7 @@ impl<N: HubName> JournalState<N> {
         requires cell { cell.now.table ≡ N.table }
         requires pass { f.old.table ≡ N.table }
         requires feed { e.feed ≡ (claim_of f.old.view).number }
-        requires lawful { IsLawful (length N.settings.sources) e }
+        requires valid { IsValid (length N.settings.sources) e }
         ensures pass { IsSamePass f.old f.new }
         ensures before { IsPrefix (claim_of f.old.view).seen self.old.entries }
         ensures seen { (claim_of f.new.view).seen ≡ self.new.entries }

@@ -2,7 +2,7 @@
 ghost use Rattle.std.specs.Prelude.{◌≡◌, ◌<◌, ◌≤◌, ◌^◌, [], All, IfSome, length};
 ghost use Rattle.feed_workers.specs.Keeping.{IsOfFeed};
 ghost use Rattle.page_cell.specs.Passes.{claim_of, key_of};
-ghost use Rattle.system_fold.specs.Settings.{AreLawful};
+ghost use Rattle.system_fold.specs.Settings.{AreValid};
 
 use crate::minutes::{Seen, append_all, are_of, minute, of_radios, read_all};
 use crate::shared::{pop_feed, put_back, same};
@@ -163,7 +163,7 @@ fn side_by_side<N: HubName + Send + Sync, R: Threads + Wait + Sync>(
 ) -> Option<Done>
     requires cell { (parts.cell.table ≡ N.table) × (parts.baton.table ≡ N.table) }
     requires settings { (key_of parts.baton.view ≡ settings.now) × (settings.now ≡ N.settings) }
-    requires lawful { AreLawful settings.now }
+    requires valid { AreValid settings.now }
     requires fresh { parts.baton.view.list ≡ [] }
     requires limit { (limit ≡ N.limit) × (0 < limit) × (limit ≤ 4194304) }
     requires feeds { All (λ f. f.table ≡ N.table) parts.feeds.items }

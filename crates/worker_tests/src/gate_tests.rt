@@ -2,9 +2,9 @@
 //! reference ID `INIT`. A kiss code stands there in its letters (RFC 5905, section 7.4).
 use crate::serving::{CLIENT, NONE, bytes_of, gate_of, link_of, serve};
 use crate::shared::{alone, moment, same};
-use feed_link::Address;
 use kiss_gate::{ClientGate, DenyList};
 use memory_outside::{LinkEvent, MemoryLink, Planned};
+use outside_traits::Address;
 use packet_auth::KeyRing;
 use responder::Served;
 use std::alloc::Global;

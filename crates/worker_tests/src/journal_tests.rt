@@ -2,9 +2,9 @@
 ghost use Rattle.std.specs.Prelude.{◌≡◌, ◌<◌, ◌≤◌, ◌^◌, [], All, length};
 ghost use Rattle.feed_workers.specs.Keeping.{IsOfFeed};
 ghost use Rattle.page_cell.specs.Passes.{claim_of, key_of};
-ghost use Rattle.system_fold.specs.Settings.{AreLawful};
+ghost use Rattle.system_fold.specs.Settings.{AreValid};
 
-use crate::minutes::{append_all, of_radios, offer};
+use crate::minutes::{append_all, enter, of_radios};
 use crate::shared::{Work, pop_feed, put_back, run_alone, same};
 use page_cell::{CellParts, FeedPass, PageCell};
 use std::alloc::Global;
@@ -24,7 +24,7 @@ fn offered<N: HubName, R: Wait>(rt: &R, hub: &Hub<N>, pass: &mut FeedPass, numbe
     requires number { number < 2 ^ 20 }
     ensures { IsOfFeed N.table (length N.settings.sources) (claim_of pass.new.view).number pass.new }
 {
-    let answer = offer(rt, hub, pass, number);
+    let answer = enter(rt, hub, pass, number);
     let seen = hub.cell().receipt(pass).length();
     (answer, seen)
 }
@@ -63,7 +63,7 @@ fn in_turn<N: HubName, R: Wait>(
 ) -> Option<(Vec<Answer>, Journal)>
     requires cell { (parts.cell.table ≡ N.table) × (parts.baton.table ≡ N.table) }
     requires settings { (key_of parts.baton.view ≡ settings.now) × (settings.now ≡ N.settings) }
-    requires lawful { AreLawful settings.now }
+    requires valid { AreValid settings.now }
     requires fresh { parts.baton.view.list ≡ [] }
     requires limit { (limit ≡ N.limit) × (0 < limit) × (limit ≤ 4194304) }
     requires feeds { All (λ f. f.table ≡ N.table) parts.feeds.items }

@@ -3,9 +3,9 @@
 ghost use Rattle.std.specs.Prelude.{◌<◌, ◌≤◌};
 
 use crate::shared::{Work, alone, has_lines, moment, run_alone, same};
-use feed_link::OpenGate;
 use feed_workers::{LeapWorker, LogEnd, LogWork};
 use memory_outside::MemorySource;
+use outside_traits::OpenGate;
 use page_cell::FeedPass;
 use std::alloc::Global;
 use std::process::Abort;
@@ -129,7 +129,7 @@ fn with_comment(alloc: Global, text: &[u8], count: u32, rest: &[u8]) -> Vec<u8> 
 
 // The second notice finds the journal full. The bad line follows a comment of 600 bytes, in a later piece.
 #[test]
-fn a_list_is_read_on_to_a_bad_line_behind_a_lost_notice(rt: HostRuntime) {
+fn a_list_is_read_on_to_a_bad_line_after_a_lost_notice(rt: HostRuntime) {
     let text = with_comment(rt.alloc(), LIST.as_bytes(), 600, b"\nx\n");
     reads(&rt, rt.alloc(), text.as_slice(), 0, 1, FIRST, bad(6, true));
 }

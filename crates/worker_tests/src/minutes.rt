@@ -1,9 +1,9 @@
 //! The minutes that tests append to a journal, from one thread or beside a reader, and what is right of the journal then.
 ghost use Rattle.std.specs.Prelude.{◌≡◌, ◌<◌, ◌≤◌, ◌^◌, [], All, IfSome, length};
 ghost use Rattle.feed_workers.specs.Keeping.{IsOfFeed};
-ghost use Rattle.journal_entry.specs.Lawful.{IsLawfulWhat};
+ghost use Rattle.journal_entry.specs.Valid.{IsValidWhat};
 ghost use Rattle.page_cell.specs.Passes.{claim_of};
-ghost use Rattle.system_fold.specs.Settings.{AreLawful};
+ghost use Rattle.system_fold.specs.Settings.{AreValid};
 
 use crate::shared::settings_of;
 use clock_page::Page;
@@ -17,7 +17,7 @@ use verdict_journal::{Full, Hub, HubName, Journal};
 
 /// Settings with this many DCF77 radios, 1 to 16.
 pub fn of_radios(radios: u32) -> Settings
-    ensures lawful { AreLawful result }
+    ensures valid { AreValid result }
     ensures some { 0 < length result.sources }
 {
     let mut settings = settings_of(SourceKind::Radio(Plan::Dcf));
@@ -32,7 +32,7 @@ pub fn of_radios(radios: u32) -> Settings
 /// The minute of this number, from 2026-01-01 12:00 UTC on, as a radio gives it: up to a millisecond late.
 pub fn minute(feed: u32, number: u64) -> Option<Entry>
     requires { number < 2 ^ 20 }
-    ensures { IfSome result (λ e. (e.feed ≡ feed) × IsLawfulWhat e.what) }
+    ensures { IfSome result (λ e. (e.feed ≡ feed) × IsValidWhat e.what) }
 {
     let at = Local::new(2_000_000 + 60_000_000 * number + number * 7919 % 1000)?;
     Some(Entry {
@@ -46,7 +46,7 @@ pub fn minute(feed: u32, number: u64) -> Option<Entry>
 }
 
 /// Appends the minute of this number to the journal.
-pub fn offer<N: HubName, R: Wait>(
+pub fn enter<N: HubName, R: Wait>(
     rt: &R,
     hub: &Hub<N>,
     pass: &mut FeedPass,
@@ -73,7 +73,7 @@ pub fn append_all<N: HubName, R: Wait>(
 {
     let mut taken = 0u64;
     for number in 0..count {
-        if let Some(Ok(_)) = offer(rt, hub, &mut pass, number) {
+        if let Some(Ok(_)) = enter(rt, hub, &mut pass, number) {
             taken = taken.saturating_add(1);
         }
     }
@@ -143,7 +143,7 @@ fn met(pages: &[Page], next: usize, page: &Page) -> Option<usize> {
 /// Whether the journal has the minutes of one radio up to a number, each line with its number and the rate after it. Each of the
 /// pages after them also has to be the page of a beginning of the journal.
 pub fn are_of(journal: &Journal, pages: &[Page], settings: &Settings, count: u64) -> bool
-    requires lawful { AreLawful settings.now }
+    requires valid { AreValid settings.now }
     requires some { 0 < length settings.now.sources }
     requires count { count ≤ 2 ^ 20 }
 {

@@ -2,15 +2,15 @@
 //! on the loopback beside a server's thread.
 ghost use Rattle.std.specs.Prelude.{◌≡◌, ◌<◌, ◌≤◌, [], All, length};
 ghost use Rattle.page_cell.specs.Passes.{key_of};
-ghost use Rattle.system_fold.specs.Settings.{AreLawful};
+ghost use Rattle.system_fold.specs.Settings.{AreValid};
 
 use crate::shared::{
     address_of, alone, has_lines, host_link, loopback_socket, moment, pop_feed, put_back, same,
     settings_of, text_of,
 };
-use feed_link::{Address, Link, OpenGate};
 use feed_workers::{PollEnd, PollWork, PollWorker};
 use memory_outside::{ANSWER, MemoryLink, Planned};
+use outside_traits::{Address, Link, OpenGate};
 use page_cell::{CellParts, FeedPass, PageCell};
 use std::alloc::Global;
 use std::marker::Brand;
@@ -63,7 +63,7 @@ fn poll_in_hub<N: HubName, R: Wait, L: Link + Drop>(
 ) -> Option<(PollWork, Journal, L)>
     requires cell { (parts.cell.table ≡ N.table) × (parts.baton.table ≡ N.table) }
     requires settings { (key_of parts.baton.view ≡ settings.now) × (settings.now ≡ N.settings) }
-    requires lawful { AreLawful settings.now }
+    requires valid { AreValid settings.now }
     requires fresh { parts.baton.view.list ≡ [] }
     requires limit { (limit ≡ N.limit) × (0 < limit) × (limit ≤ 4194304) }
     requires feeds { All (λ f. f.table ≡ N.table) parts.feeds.items }
@@ -259,7 +259,7 @@ fn a_fault_of_the_link_ends_the_polling(rt: HostRuntime) {
 }
 
 #[test]
-fn a_full_journal_keeps_a_front_and_the_polling_goes_on(rt: HostRuntime) {
+fn a_full_journal_keeps_a_prefix_and_the_polling_goes_on(rt: HostRuntime) {
     let link = short_ones(&rt, rt.alloc(), 1, 0);
     let end = PollEnd::LinkEnd;
     let work = PollWork { end, full: true };

@@ -4,9 +4,9 @@ ghost use Rattle.feed_workers.specs.Keeping.{IsOfFeed};
 ghost use Rattle.page_cell.specs.Passes.{claim_of};
 
 use crate::shared::{Work, alone, has_lines, run_alone, same};
-use feed_link::{OpenGate, Source};
 use feed_workers::{LogEnd, LogWork, RadioWorker};
 use memory_outside::{MemorySource, NOON_0, NOON_1};
+use outside_traits::{OpenGate, Source};
 use page_cell::FeedPass;
 use radio_receiver::{DcfReceiver, Receiver};
 use std::alloc::Global;
@@ -165,7 +165,7 @@ fn a_read_that_fails_ends_the_reading(rt: HostRuntime) {
 }
 
 #[test]
-fn a_full_journal_keeps_a_front_and_the_log_is_read_on(rt: HostRuntime) {
+fn a_full_journal_keeps_a_prefix_and_the_log_is_read_on(rt: HostRuntime) {
     let end = LogEnd::Whole;
     reads_two(&rt, rt.alloc(), END, 1, LogWork { end, full: true }, LONE);
     reads_two(&rt, rt.alloc(), END, 2, LogWork { end, full: false }, BOTH);
@@ -182,7 +182,7 @@ fn three_frames(alloc: Global) -> String {
 // The second minute's entry finds the journal full. The bad line follows one more frame, in a later piece: 1 and three times 59
 // lines before it.
 #[test]
-fn a_log_is_read_on_to_a_bad_line_behind_a_lost_entry(rt: HostRuntime) {
+fn a_log_is_read_on_to_a_bad_line_after_a_lost_entry(rt: HostRuntime) {
     let log = three_frames(rt.alloc());
     let work = LogWork {
         end: LogEnd::BadLine { line: 179 },

@@ -1,8 +1,8 @@
 //! A responder over links in memory, and one on the loopback beside a client's thread.
 use crate::serving::{CLIENT, NONE, bytes_of, link_of, open_to_all, serve as serve_with};
 use crate::shared::{address_of, alone, host_link, loopback_socket, moment, same};
-use feed_link::Link;
 use memory_outside::{LinkEvent, MemoryLink, Planned, REQUEST};
+use outside_traits::Link;
 use packet_auth::KeyRing;
 use responder::{End, Served};
 use std::alloc::Global;
@@ -247,7 +247,7 @@ fn a_fault_of_the_link_ends_the_serving(rt: HostRuntime) {
 // How many hearings it is asked for, how many requests it answers, and how many events there are.
 const BUDGETS: [(u64, u64, usize); 4] = [(0, 0, 0), (1, 1, 3), (2, 1, 4), (3, 2, 7)];
 
-fn hear_so_often<R: Abort + Wait>(rt: &R, alloc: Global, rows: &[(u64, u64, usize)]) {
+fn serve_so_often<R: Abort + Wait>(rt: &R, alloc: Global, rows: &[(u64, u64, usize)]) {
     for (budget, answered, events) in rows {
         let link = two_requests(rt, alloc, 0, 9);
         serves_two(rt, alloc, link, *budget, (*answered, End::Count, *events));
@@ -255,8 +255,8 @@ fn hear_so_often<R: Abort + Wait>(rt: &R, alloc: Global, rows: &[(u64, u64, usiz
 }
 
 #[test]
-fn it_hears_as_often_as_it_is_asked_to(rt: HostRuntime) {
-    hear_so_often(&rt, rt.alloc(), &BUDGETS);
+fn it_receives_as_often_as_it_is_asked_to(rt: HostRuntime) {
+    serve_so_often(&rt, rt.alloc(), &BUDGETS);
 }
 
 #[test]

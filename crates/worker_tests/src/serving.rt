@@ -3,9 +3,9 @@
 ghost use Rattle.std.specs.Prelude.{◌≡◌};
 
 use crate::shared::{alone, without_sources};
-use feed_link::{Address, Link, OpenGate};
 use kiss_gate::{ClientGate, DenyList, GateOpen};
 use memory_outside::{MemoryLink, Planned, REQUEST};
+use outside_traits::{Address, Link, OpenGate};
 use packet_auth::KeyRing;
 use page_cell::{PageCell, ReadPass};
 use responder::{End, Responder, Served};

@@ -3,11 +3,11 @@
 ghost use Rattle.std.specs.Prelude.{◌≡◌, ◌<◌, ◌≤◌, [], All, IfSome, length};
 ghost use Rattle.feed_workers.specs.Keeping.{IsOfFeed};
 ghost use Rattle.page_cell.specs.Passes.{claim_of, key_of};
-ghost use Rattle.system_fold.specs.Settings.{AreLawful};
+ghost use Rattle.system_fold.specs.Settings.{AreValid};
 
-use feed_link::{Address, Outside};
 use host_links::{HostOutside, UdpLink};
 use journal_entry::{ENTRY_ROOM, Entry, write_entry};
+use outside_traits::{Address, Outside};
 use page_cell::{CellParts, FeedPass, PageCell};
 use std::alloc::Global;
 use std::fmt::Debug;
@@ -33,14 +33,14 @@ pub fn moment(microseconds: u32) -> Local {
 
 /// The settings of a station without a source.
 pub fn without_sources() -> Settings
-    ensures { AreLawful result }
+    ensures { AreValid result }
 {
     Settings::new(1000)
 }
 
 /// The settings of a station with one source.
 pub fn settings_of(kind: SourceKind) -> Settings
-    ensures lawful { AreLawful result }
+    ensures valid { AreValid result }
     ensures one { length result.sources ≡ 1 }
 {
     let mut settings = Settings::new(1000);
@@ -120,7 +120,7 @@ fn in_hub<N: HubName, R: Wait, W: Work>(
 ) -> Option<(W::Done, Journal)>
     requires cell { (parts.cell.table ≡ N.table) × (parts.baton.table ≡ N.table) }
     requires settings { (key_of parts.baton.view ≡ settings.now) × (settings.now ≡ N.settings) }
-    requires lawful { AreLawful settings.now }
+    requires valid { AreValid settings.now }
     requires fresh { parts.baton.view.list ≡ [] }
     requires limit { (limit ≡ N.limit) × (0 < limit) × (limit ≤ 4194304) }
     requires feeds { All (λ f. f.table ≡ N.table) parts.feeds.items }

@@ -2,7 +2,7 @@
 ghost use Rattle.std.specs.Prelude.{◌≡◌, ◌≤◌, IfOk, length};
 ghost use Rattle.journal_entry.specs.declared.entry.What.TheVariants.{Notice};
 ghost use Rattle.station_world.specs.Runs.{MayRun};
-ghost use Rattle.system_fold.specs.Settings.{AreLawful};
+ghost use Rattle.system_fold.specs.Settings.{AreValid};
 
 use crate::shared::{same, settings_of};
 use journal_entry::{Entry, What};
@@ -15,7 +15,7 @@ use tick_units::{Local, Plan};
 
 // A station with one radio.
 fn of_one_radio() -> Settings
-    ensures { AreLawful result }
+    ensures { AreValid result }
 {
     settings_of(SourceKind::Radio(Plan::Dcf))
 }
@@ -109,7 +109,7 @@ fn publishes(rt: &impl Abort, bench: &mut Bench, want: Answer) {
     same(rt, bench.publish(), want);
 }
 
-fn tells(rt: &impl Abort, bench: &mut Bench, number: u32, told: u64, want: Answer) {
+fn is_told(rt: &impl Abort, bench: &mut Bench, number: u32, told: u64, want: Answer) {
     same(rt, bench.tell(number, told), want);
 }
 
@@ -150,8 +150,8 @@ fn nothing(length: u64) -> StepRefusal {
 // Before and after the first entry.
 fn is_refused_at_first(rt: &impl Abort, bench: &mut Bench) {
     reads(rt, bench, 1, Err(NO_READER));
-    tells(rt, bench, 1, 9, Err(NO_READER));
-    tells(rt, bench, 0, 1, Err(beyond(1, 0)));
+    is_told(rt, bench, 1, 9, Err(NO_READER));
+    is_told(rt, bench, 0, 1, Err(beyond(1, 0)));
     publishes(rt, bench, Err(nothing(0)));
     enters(rt, bench, 1, Err(NO_FEED));
     reads(rt, bench, 0, Ok(Some(0)));
@@ -164,9 +164,9 @@ fn is_refused_at_first(rt: &impl Abort, bench: &mut Bench) {
 fn is_refused_then(rt: &impl Abort, bench: &mut Bench) {
     publishes(rt, bench, Ok(None));
     publishes(rt, bench, Err(nothing(1)));
-    tells(rt, bench, 0, 1, Ok(None));
-    tells(rt, bench, 0, 0, Ok(None));
-    tells(rt, bench, 0, 2, Err(beyond(2, 1)));
+    is_told(rt, bench, 0, 1, Ok(None));
+    is_told(rt, bench, 0, 0, Ok(None));
+    is_told(rt, bench, 0, 2, Err(beyond(2, 1)));
     reads(rt, bench, 0, Ok(Some(1)));
 }
 

@@ -2,8 +2,8 @@
 use crate::scene::Unplayed;
 use crate::scene::made::add_hex;
 use crate::scene::texts::{Words, number};
-use feed_link::Address;
 use memory_outside::{ANSWER_DIGITS, LinkEvent, MemoryLink, Planned, REQUEST_DIGITS};
+use outside_traits::Address;
 use std::alloc::Global;
 use tick_units::Local;
 

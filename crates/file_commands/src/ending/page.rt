@@ -11,8 +11,8 @@ use super::writing::finish;
 use crate::reading::Line;
 use crate::report::Report;
 use clock_page::Page;
-use feed_link::{Failed, Sink};
 use journal_entry::LINE_ROOM;
+use outside_traits::{Failed, Sink};
 use sink_text::write_all;
 use system_fold::write_page;
 

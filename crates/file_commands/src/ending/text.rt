@@ -42,40 +42,40 @@ fn joined(first: &[u8], second: &[u8]) -> Line
 }
 
 // A text, then a keyword and a number.
-fn counted(front: &[u8], word: &[u8], number: u32) -> Line
-    requires { length front.now + length word.now ≤ 30 }
-    ensures text { result.items ≡ front.now ++ word.now ++ decimal number }
+fn counted(prefix: &[u8], word: &[u8], number: u32) -> Line
+    requires { length prefix.now + length word.now ≤ 30 }
+    ensures text { result.items ≡ prefix.now ++ word.now ++ decimal number }
     ensures short { array_vec_len result ≤ 50 }
 {
-    let mut line = joined(front, word);
+    let mut line = joined(prefix, word);
     add_number(&mut line, u64::from(number));
     line
 }
 
 // A text, and what the status line calls a subject.
-fn named(front: &[u8], subject: Subject) -> Line
-    requires { length front.now ≤ 15 }
-    ensures text { result.items ≡ front.now ++ name_of subject }
+fn named(prefix: &[u8], subject: Subject) -> Line
+    requires { length prefix.now ≤ 15 }
+    ensures text { result.items ≡ prefix.now ++ name_of subject }
     ensures short { array_vec_len result ≤ 50 }
 {
     match subject {
-        Subject::Station => joined(front, b"station"),
-        Subject::Script => joined(front, b"script"),
-        Subject::Journal => joined(front, b"journal"),
-        Subject::Feed(number) => counted(front, b"feed ", number),
-        Subject::Link(number) => counted(front, b"link ", number),
+        Subject::Station => joined(prefix, b"station"),
+        Subject::Script => joined(prefix, b"script"),
+        Subject::Journal => joined(prefix, b"journal"),
+        Subject::Feed(number) => counted(prefix, b"feed ", number),
+        Subject::Link(number) => counted(prefix, b"link ", number),
     }
 }
 
 // A text, and the place of a line of a subject.
-fn placed(front: &[u8], subject: Subject) -> Line
-    requires { length front.now ≤ 15 }
-    ensures text { result.items ≡ front.now ++ place_of subject }
+fn placed(prefix: &[u8], subject: Subject) -> Line
+    requires { length prefix.now ≤ 15 }
+    ensures text { result.items ≡ prefix.now ++ place_of subject }
     ensures short { array_vec_len result ≤ 50 }
 {
     match subject {
-        Subject::Feed(number) => counted(front, b"line ", number),
-        other => named(front, other),
+        Subject::Feed(number) => counted(prefix, b"line ", number),
+        other => named(prefix, other),
     }
 }
 

@@ -7,7 +7,7 @@ ghost use Rattle.file_commands.specs.Writing.{Answers};
 use super::Ending;
 use super::text::status_text;
 use crate::report::Report;
-use feed_link::{Failed, Sink};
+use outside_traits::{Failed, Sink};
 use sink_text::write_all;
 
 /// Writes the status line. The answer is the ending, or that a write has failed.

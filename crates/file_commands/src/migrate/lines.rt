@@ -2,11 +2,11 @@
 ghost use Rattle.std.specs.Prelude.{◌≡◌, ◌+◌, ◌<◌, ◌≤◌, ◌^◌, ◌↔◌, IsTrue, [], List, None, length};
 ghost use Rattle.journal_entry.specs.Lines.{entry_of};
 ghost use Rattle.journal_entry.specs.declared.line.JournalLine as journal;
-ghost use Rattle.file_commands.specs.Migrating.{TellsNumber};
-ghost use Rattle.system_fold.specs.Settings.{AreLawful, SettingsFields};
+ghost use Rattle.file_commands.specs.Migrating.{StatesNumber};
+ghost use Rattle.system_fold.specs.Settings.{AreValid, SettingsFields};
 
 use clock_page::Page;
-use journal_entry::{Entry, Form, JournalLine, Numbered, is_lawful};
+use journal_entry::{Entry, Form, JournalLine, Numbered, is_valid};
 use std::marker::Model;
 use system_fold::{FoldState, Settings};
 
@@ -30,12 +30,13 @@ impl Model for Mover {
 }
 
 // A line of the second form has this number, rate and entry.
-fn tells(line: &JournalLine, numbered: &Numbered) -> bool
-    ensures { IsTrue result ↔ TellsNumber line.now numbered.now }
+fn reports(line: &JournalLine, numbered: &Numbered) -> bool
+    ensures { IsTrue result ↔ StatesNumber line.now numbered.now }
 {
     match line {
         JournalLine::Bare(_) => true,
-        JournalLine::Numbered(told) => told.length == numbered.length && told.rate == numbered.rate,
+        JournalLine::Numbered(reported) => reported.length == numbered.length
+            && reported.rate == numbered.rate,
     }
 }
 
@@ -56,7 +57,7 @@ impl Mover {
 
     // No line is converted yet.
     pub fn new(settings: &Settings) -> Mover
-        requires { AreLawful settings.now }
+        requires { AreValid settings.now }
         ensures moved { HasMoved result settings.now [] None }
         ensures none { result.fold.length ≡ 0 }
     {
@@ -88,14 +89,14 @@ impl Mover {
             length before < 4194304 →
             HasMoved self.old settings before None → MovesLine self.new settings before line.now number result }
     {
-        if !self.has_form(line) || !is_lawful(line.entry(), self.sources) {
+        if !self.has_form(line) || !is_valid(line.entry(), self.sources) {
             return None;
         }
         self.form = Some(line.form());
         self.fold.step(line.entry());
         let page = self.fold.page();
         let numbered = numbered_by(&page, number, line.entry());
-        if !tells(line, &numbered) {
+        if !reports(line, &numbered) {
             return None;
         }
         self.page = page;

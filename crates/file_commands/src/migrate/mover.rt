@@ -7,7 +7,7 @@ ghost use Rattle.file_commands.specs.JournalTaking.{IsEven, IsMovedBy, journal_w
 ghost use Rattle.file_commands.specs.LineTaking.{TakesLine, line_texts};
 ghost use Rattle.file_commands.specs.Moving.{HasMoved, MovesText};
 ghost use Rattle.file_commands.specs.Taking.{Fits};
-ghost use Rattle.station_config.specs.Station.{StationFields, settings_of};
+ghost use Rattle.station_values.specs.Station.{StationFields, settings_of};
 ghost use Rattle.system_fold.specs.Settings.{SettingsFields};
 
 use crate::lines::write_numbered_line;
@@ -90,7 +90,7 @@ impl JournalMover {
 impl Taker for JournalMover {
     ghost use Rattle.std.specs.Prelude.{◌^◌};
     ghost use Rattle.file_commands.specs.JournalTaking.{IsEven, IsMovedBy, journal_says};
-    ghost use Rattle.station_config.specs.Station.{StationFields};
+    ghost use Rattle.station_values.specs.Station.{StationFields};
 
     ghost Case = { StationFields };
 

@@ -1,6 +1,6 @@
 //! Hands the bytes of a file to a taker, and writes the texts that they give.
 ghost use Rattle.std.specs.Prelude.{◌≡◌, ◌+◌, ◌<◌, ◌≤◌, ◌++◌, ℕ, List, [], None, length, take};
-ghost use Rattle.feed_link.specs.Told.{SinkState};
+ghost use Rattle.outside_traits.specs.States.{SinkState};
 ghost use Rattle.journal_entry.specs.declared.writer.TheConstants.{LINE_ROOM};
 ghost use Rattle.file_commands.specs.Reading.{bad_in_the_end};
 ghost use Rattle.file_reader.specs.Ends.{EndsAt};
@@ -10,9 +10,9 @@ ghost use Rattle.file_reader.specs.Pieces.{EndsPieces};
 ghost use Rattle.sink_text.specs.Writing.{WritesAll};
 
 use crate::reading::{Gives, Line, Stop, write_given};
-use feed_link::{Failed, Sink, Source};
 use file_reader::{FileEnd, LogEnd, PieceTaker, read_pieces};
 use journal_entry::LINE_ROOM;
+use outside_traits::{Failed, Sink, Source};
 use pulse_log::Taken;
 
 /// Takes the bytes of a kind of file as they come, and gives their text, up to the first bad line.
@@ -68,7 +68,7 @@ struct Writing<'a, T, K> {
 
 impl<T: Taker, K: Sink> PieceTaker<Stop> for Writing<'_, T, K> {
     ghost use Rattle.std.specs.Borrow.{GName};
-    ghost use Rattle.feed_link.specs.Told.{SinkState};
+    ghost use Rattle.outside_traits.specs.States.{SinkState};
     ghost use Rattle.file_commands.specs.Taking.{TakesAll, StopsTaking};
 
     // The case of the taker, and what the sink had reported at first.

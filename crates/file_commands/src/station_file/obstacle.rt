@@ -2,16 +2,16 @@
 
 ghost use Rattle.std.specs.Prelude.{◌++◌, OnErr, OnOk, codes};
 ghost use Rattle.file_commands.specs.Reports.{Reports, status_in};
-ghost use Rattle.file_commands.specs.StationFile.{IsNamed, IsTold, many_line, station_line, status_at, line_at};
+ghost use Rattle.file_commands.specs.StationFile.{IsNamed, IsReported, many_line, station_line, status_at, line_at};
 ghost use Rattle.file_commands.specs.Writing.{Answers};
 ghost use Rattle.file_commands.specs.declared.ending.status.Status.TheVariants.{Station};
-ghost use Rattle.sink_text.specs.Writing.{WritesAll, WritesFront};
+ghost use Rattle.sink_text.specs.Writing.{WritesAll, WritesPrefix};
 
 use crate::ending::Ending;
 use crate::ending::text::count_text;
 use crate::ending::writing::finish;
 use crate::report::Report;
-use feed_link::{Failed, Sink};
+use outside_traits::{Failed, Sink};
 use sink_text::write_all;
 use station_reader::{KeyText, StationFault};
 
@@ -25,7 +25,7 @@ pub enum Obstacle {
 // Writes two texts.
 fn write_two<K: Sink>(out: &mut K, first: &[u8], second: &[u8]) -> Result<(), Failed>
     ensures ok { OnOk result (WritesAll (K.state out.old) (K.state out.new) (first.now ++ second.now)) }
-    ensures err { OnErr result (WritesFront (K.state out.old) (K.state out.new) (first.now ++ second.now)) }
+    ensures err { OnErr result (WritesPrefix (K.state out.old) (K.state out.new) (first.now ++ second.now)) }
 {
     write_all(out, first)?;
     write_all(out, second)
@@ -39,24 +39,24 @@ fn write_three<K: Sink>(
     third: &[u8],
 ) -> Result<(), Failed>
     ensures ok { OnOk result (WritesAll (K.state out.old) (K.state out.new) (first.now ++ (second.now ++ third.now))) }
-    ensures err { OnErr result (WritesFront (K.state out.old) (K.state out.new) (first.now ++ (second.now ++ third.now))) }
+    ensures err { OnErr result (WritesPrefix (K.state out.old) (K.state out.new) (first.now ++ (second.now ++ third.now))) }
 {
     write_all(out, first)?;
     write_two(out, second, third)
 }
 
 // Writes the status line of a fault at a key, which may be long.
-fn write_at_key<K: Sink>(front: &[u8], key: &KeyText, out: &mut K) -> Result<(), Failed>
-    ensures ok { OnOk result (WritesAll (K.state out.old) (K.state out.new) (front.now ++ (key.now ++ codes "\n"))) }
-    ensures err { OnErr result (WritesFront (K.state out.old) (K.state out.new) (front.now ++ (key.now ++ codes "\n"))) }
+fn write_at_key<K: Sink>(prefix: &[u8], key: &KeyText, out: &mut K) -> Result<(), Failed>
+    ensures ok { OnOk result (WritesAll (K.state out.old) (K.state out.new) (prefix.now ++ (key.now ++ codes "\n"))) }
+    ensures err { OnErr result (WritesPrefix (K.state out.old) (K.state out.new) (prefix.now ++ (key.now ++ codes "\n"))) }
 {
-    write_three(out, front, key.bytes(), b"\n")
+    write_three(out, prefix, key.bytes(), b"\n")
 }
 
 // Writes the status line of a key of which there are too many.
 fn write_at_many<K: Sink>(key: &KeyText, count: u64, out: &mut K) -> Result<(), Failed>
     ensures ok { OnOk result (WritesAll (K.state out.old) (K.state out.new) (many_line key.now count)) }
-    ensures err { OnErr result (WritesFront (K.state out.old) (K.state out.new) (many_line key.now count)) }
+    ensures err { OnErr result (WritesPrefix (K.state out.old) (K.state out.new) (many_line key.now count)) }
 {
     let text = count_text(count);
     write_three(out, b"status 3 station many ", key.bytes(), text.as_slice())
@@ -65,7 +65,7 @@ fn write_at_many<K: Sink>(key: &KeyText, count: u64, out: &mut K) -> Result<(), 
 // Writes the status line of a station with a fault that a status line names.
 fn write_fault<K: Sink>(fault: &StationFault, out: &mut K) -> Result<(), Failed>
     ensures ok { OnOk result (WritesAll (K.state out.old) (K.state out.new) (station_line fault.now)) }
-    ensures err { OnErr result (WritesFront (K.state out.old) (K.state out.new) (station_line fault.now)) }
+    ensures err { OnErr result (WritesPrefix (K.state out.old) (K.state out.new) (station_line fault.now)) }
 {
     match fault {
         StationFault::NotToml => write_all(out, b"status 3 station toml\n"),
@@ -91,7 +91,7 @@ fn finish_faulty<K: Sink>(fault: StationFault, out: &mut K) -> Report
 
 /// Writes the status line of a run that an obstacle ends. The answer is the obstacle, or that a write has failed.
 pub fn finish_at<K: Sink>(obstacle: Obstacle, out: &mut K) -> Report
-    ensures answers { IsTold obstacle →
+    ensures answers { IsReported obstacle →
         Answers (status_at obstacle) (status_in result) (K.state out.old) (K.state out.new) (line_at obstacle) }
     ensures reports { Reports result (K.state out.old) (K.state out.new) }
 {

@@ -1,6 +1,6 @@
 -- Where no memory is found for what the command is handed, nothing was opened.
 use Rattle.std.proofs.Common.{subst}
-use Rattle.feed_link.specs.Told.{SinkState}
+use Rattle.outside_traits.specs.States.{SinkState}
 use Rattle.file_commands.specs.Endings.{status_of, status_line}
 use Rattle.file_commands.specs.Reports.{Reports, status_in}
 use Rattle.file_commands.specs.Writing.{Answers}

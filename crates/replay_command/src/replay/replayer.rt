@@ -15,7 +15,7 @@ use line_cutter::{Cut, LineCutter};
 use pulse_log::{BadLine, Taken};
 use radio_receiver::Receiver;
 use script_line::read_line;
-use script_player::{BoxedReceiver, NotLawful, Player, write_outcome};
+use script_player::{BoxedReceiver, Invalid, Player, write_outcome};
 
 // A line of a script is too long at this byte.
 const TOO_LONG: usize = 4096;
@@ -33,7 +33,7 @@ fn play_text(
     player: &mut Player<BoxedReceiver>,
     text: &[u8],
     line: &mut Line,
-) -> Result<usize, NotLawful>
+) -> Result<usize, Invalid>
     requires ready { IsReady least_start player.old }
     ensures ready { IsReady least_start player.new }
     ensures fits { MatchResult result (λ length. length ≤ LINE_ROOM) (λ _. Unit {0}) }
@@ -41,11 +41,11 @@ fn play_text(
         PlaysNext stands_for player.new of before (line_texts text.now line.new) result }
 {
     let Some(script_line) = read_line(text) else {
-        return Err(NotLawful);
+        return Err(Invalid);
     };
     match player.play(&script_line) {
         Ok(outcome) => Ok(write_outcome(&outcome, line)),
-        Err(NotLawful) => Err(NotLawful),
+        Err(Invalid) => Err(Invalid),
     }
 }
 
@@ -82,7 +82,7 @@ impl Replayer<BoxedReceiver> {
                 self.lines += 1;
                 Ok(Some(length))
             }
-            Err(NotLawful) => Err(BadLine {
+            Err(Invalid) => Err(BadLine {
                 line: self.lines + 1,
             }),
         }

@@ -5,7 +5,7 @@ use Rattle.sink_text.proofs.write_all.Given as goal
 
 -- what was written so far is the beginning of the text
 abbrev pub invariant-rest : goal.invariant-rest
-invariant-rest g l = (front : List ℕ) × (l.text ≡ front ++ l.rest) × WritesAll (g.K.Sink.state l.fn.out) (g.K.Sink.state l.out) front
+invariant-rest g l = (prefix : List ℕ) × (l.text ≡ prefix ++ l.rest) × WritesAll (g.K.Sink.state l.fn.out) (g.K.Sink.state l.out) prefix
 
 abbrev pub decreases-rest : goal.decreases-rest
 decreases-rest g l = length l.rest

@@ -1,7 +1,7 @@
 -- What the search leaves open of `gear_tests::visit`.
 use Rattle.std.proofs.Common.{refl}
-use Rattle.feed_link.specs.Openings.{log_visit}
-use Rattle.feed_link.proofs.OpeningLaws.{opened_once, out_after}
+use Rattle.outside_traits.specs.Openings.{log_visit}
+use Rattle.outside_traits.proofs.OpeningLaws.{opened_once, out_after}
 use Rattle.station_gear.specs.Gears.{wanted_by}
 use Rattle.station_gear.proofs.GearLaws.{visited_before}
 use Rattle.config_tests.proofs.gear_tests.visit.Goals as goal

@@ -1,7 +1,7 @@
 -- What stays true in the loops of `poller::poll_once`.
 use Rattle.std.proofs.Common.{◌≡◌, ◌≤◌, ℕ}
 use Rattle.std.specs.Option.{ForSome}
-use Rattle.feed_link.specs.Told.{LinkState}
+use Rattle.outside_traits.specs.States.{LinkState}
 use Rattle.page_cell.specs.declared.view.Claim.{Claim}
 use Rattle.poll_core.specs.Polling.{asked_at}
 use Rattle.feed_workers.specs.Asking.{InRound, Polled}

@@ -7,7 +7,7 @@ use Rattle.file_commands.specs.StationFile.{IsObstacle}
 use Rattle.file_commands.proofs.LineFileLaws.{ends_at, file_tried}
 use Rattle.file_commands.specs.Migrating.{journal_of}
 use Rattle.file_commands.specs.declared.ending.subject.Subject.TheVariants.{Journal}
-use Rattle.file_commands.proofs.StationFileLaws.{told_by}
+use Rattle.file_commands.proofs.StationFileLaws.{reported_by}
 use Rattle.file_commands.proofs.migrate.run_migrate.Goals as goal
 
 pub returns-in-Ok-prepare-clause-runs : goal.returns-in-Ok-prepare-clause-runs
@@ -19,7 +19,7 @@ returns-in-Ok-prepare-clause-runs g c =
 pub returns-in-Err-clause-runs : goal.returns-in-Err-clause-runs
 returns-in-Err-clause-runs g c =
     let cause = subst (λ (b : List ℕ). IsObstacle c.in-Ok-open_station.end b c.in-Err.obstacle) c.as_slice.ensures.value c.in-Err.ensures.judged in
-    inr (ends_at Journal journal_of c.args.station.now c.args.journal.now _ _ _ _ _ c.in-Ok-open_station.end _ c.in-Err.obstacle c.in-Ok-open_station.ensures.tried cause (c.finish_at.ensures.answers (told_by c.in-Ok-open_station.end _ c.in-Err.obstacle cause)))
+    inr (ends_at Journal journal_of c.args.station.now c.args.journal.now _ _ _ _ _ c.in-Ok-open_station.end _ c.in-Err.obstacle c.in-Ok-open_station.ensures.tried cause (c.finish_at.ensures.answers (reported_by c.in-Ok-open_station.end _ c.in-Err.obstacle cause)))
 
 pub returns-in-Ok-prepare-clause-reports : goal.returns-in-Ok-prepare-clause-reports
 returns-in-Ok-prepare-clause-reports g c = (let judged = c.in-Ok-prepare.ensures.judged in c.open_and_move.ensures.reports judged.1.0 judged.1.2)

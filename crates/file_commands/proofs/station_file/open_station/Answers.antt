@@ -1,6 +1,6 @@
 -- What the search leaves open of `station_file::open_station`.
-use Rattle.feed_link.specs.Openings.{log_visit}
-use Rattle.feed_link.proofs.OpeningLaws.{opened_once, out_after}
+use Rattle.outside_traits.specs.Openings.{log_visit}
+use Rattle.outside_traits.proofs.OpeningLaws.{opened_once, out_after}
 use Rattle.file_commands.proofs.station_file.open_station.Goals as goal
 
 pub give_back_log-requires : goal.give_back_log-requires

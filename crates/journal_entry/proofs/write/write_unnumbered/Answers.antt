@@ -6,7 +6,7 @@ use Rattle.journal_entry.proofs.write.write_unnumbered.Goals as goal
 pub returns-clause-rest : goal.returns-clause-rest
 returns-clause-rest c =
     let begin = c.new-text.result in
-    let front = adds_both begin c.add.new.self c.moment.new.self _ _ c.add.ensures c.moment.ensures.text in
-    let all = adds_both begin c.moment.new.self c.write_what.new.text _ _ front c.write_what.ensures.text.adds in
+    let prefix = adds_both begin c.add.new.self c.moment.new.self _ _ c.add.ensures c.moment.ensures.text in
+    let all = adds_both begin c.moment.new.self c.write_what.new.text _ _ prefix c.write_what.ensures.text.adds in
     let rest : drop c.len.result c.write_what.new.text.out.now ≡ drop c.len.result c.args.out.now = cc (all.rest, c.new-text.ensures.same, c.len.ensures) in
     search (rules, rest)

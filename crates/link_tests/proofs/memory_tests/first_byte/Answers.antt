@@ -1,5 +1,5 @@
 -- What the search leaves open of `memory_tests::first_byte`.
-use Rattle.feed_link.proofs.OpeningLaws.{out_after}
+use Rattle.outside_traits.proofs.OpeningLaws.{out_after}
 use Rattle.link_tests.proofs.memory_tests.first_byte.Goals as goal
 
 pub give_back_log-requires : goal.give_back_log-requires

@@ -1,5 +1,5 @@
 -- What the search leaves open of `planned_tests::visit`.
-use Rattle.feed_link.proofs.OpeningLaws.{out_after}
+use Rattle.outside_traits.proofs.OpeningLaws.{out_after}
 use Rattle.link_tests.proofs.planned_tests.visit.Goals as goal
 
 pub give_back_link-requires : goal.give_back_link-requires

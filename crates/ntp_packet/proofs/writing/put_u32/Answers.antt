@@ -1,8 +1,8 @@
 -- What the search leaves open of `writing::put_u32`.
 use Rattle.std.proofs.Common.{arith, refl}
 use Rattle.byteorder.specs.Endian.{big_bytes}
-use Rattle.ntp_packet.proofs.Pieces.{front_more}
+use Rattle.ntp_packet.proofs.Pieces.{prefix_more}
 use Rattle.ntp_packet.proofs.writing.put_u32.Goals as goal
 
 pub returns-clause-piece : goal.returns-clause-piece
-returns-clause-piece c = front_more c.args.out.now (big_bytes 4 c.args.n) _ c.args.front 4 (omega arith) refl c.write_u32.ensures
+returns-clause-piece c = prefix_more c.args.out.now (big_bytes 4 c.args.n) _ c.args.start 4 (omega arith) refl c.write_u32.ensures

@@ -10,7 +10,7 @@ use Rattle.ntp_packet.proofs.Pieces.{packed, four_set}
 use Rattle.ntp_packet.proofs.writing.write.Goals as goal
 
 -- one piece more after those that stand
-more : {front now : List ℕ} (piece known : List ℕ) → now ≡ front ++ piece → front ≡ known → now ≡ known ++ piece
+more : {start now : List ℕ} (piece known : List ℕ) → now ≡ start ++ piece → start ≡ known → now ≡ known ++ piece
 more piece known is stands = is ∙ ap (λ (xs : List ℕ). xs ++ piece) stands
 
 spelled : (c : goal.After-put_u64-4) → c.put_u64-4.new.out ≡ layout c.args.header.now

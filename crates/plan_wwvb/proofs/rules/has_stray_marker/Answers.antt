@@ -18,4 +18,4 @@ loop-place-preserved g c = λ marks h.
 
 pub returns : goal.returns
 returns g c = λ marks h.
-    c.has_long_behind.ensures marks h ∙ places_passed (is_stray marks) c.loop-place.place 61 (has_long (drop 61 marks)) (has_stray_marker marks) (c.loop-place.invariant marks h) (omega arith)
+    c.has_long_after.ensures marks h ∙ places_passed (is_stray marks) c.loop-place.place 61 (has_long (drop 61 marks)) (has_stray_marker marks) (c.loop-place.invariant marks h) (omega arith)

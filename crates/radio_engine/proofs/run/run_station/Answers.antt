@@ -1,7 +1,7 @@
 -- What the search leaves open of `run::run_station`: its status is that of what came of the command.
 use Rattle.std.proofs.Common.{◌⊎◌, List, ℕ, map, subst, sym}
 use Rattle.command_words.specs.Commands.{Asked, AskFor}
-use Rattle.feed_link.specs.Faults.{Rose}
+use Rattle.outside_traits.specs.Faults.{Rose}
 use Rattle.file_commands.specs.Effects.{Effect, effect_of}
 use Rattle.file_commands.specs.Unopened.{Lacks, Refuses}
 use Rattle.file_commands.specs.declared.ending.status.Status.{Status}

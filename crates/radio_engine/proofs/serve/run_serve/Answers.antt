@@ -5,14 +5,14 @@ use Rattle.station_reader.specs.Faults.{Says}
 use Rattle.file_commands.specs.Keeping.{OpensStation}
 use Rattle.file_commands.specs.StationFile.{IsObstacle}
 use Rattle.station_report.proofs.ServingLaws.{ends_at_station, ends_served, ends_unserved}
-use Rattle.file_commands.proofs.StationFileLaws.{told_by}
+use Rattle.file_commands.proofs.StationFileLaws.{reported_by}
 use Rattle.radio_engine.proofs.serve.run_serve.Goals as goal
 
 pub returns-in-Err-clause-runs : goal.returns-in-Err-clause-runs
 returns-in-Err-clause-runs g c =
     let cause = subst (λ (b : List ℕ). IsObstacle c.in-Ok-open_station.end b c.in-Err.obstacle) c.as_slice.ensures.value c.in-Err.ensures in
     inr (ends_at_station c.args.name.now c.args.orders _ (g.O.Outside.state c.open_station.new.outside) _ _ _ _ c.in-Ok-open_station.end _ c.in-Err.obstacle c.in-Ok-open_station.ensures.tried cause
-    (c.finish_at.ensures.answers (told_by c.in-Ok-open_station.end _ c.in-Err.obstacle cause)))
+    (c.finish_at.ensures.answers (reported_by c.in-Ok-open_station.end _ c.in-Err.obstacle cause)))
 
 pub returns-in-Ok-serve-clause-runs : goal.returns-in-Ok-serve-clause-runs
 returns-in-Ok-serve-clause-runs g c =

@@ -29,14 +29,14 @@ returns-in-Err-clause-tried g c =
 pub give_back_gear-requires-in-Ok-ended-after_bounds : goal.give_back_gear-requires-in-Ok-ended-after_bounds
 give_back_gear-requires-in-Ok-ended-after_bounds g c κs within =
     let gear = c.open_gear.new.gear in
-    let told = c.in-Ok-ended.ensures in
+    let reported = c.in-Ok-ended.ensures in
     let ended = c.in-Ok-ended.ended in
     let ends : EndsAll (sights_of (seen g.O.Log.Source.state g.O.Log.Source.opening) (seen g.O.Net.Link.state g.O.Net.Link.opening)) c.args.station.now c.args.orders gear ended = record {
-      of_station = told.journal;
-      radios_served = told.radios;
-      servers_served = told.servers;
-      leap_served = told.leap;
-      links_served = told.links;
+      of_station = reported.journal;
+      radios_served = reported.radios;
+      servers_served = reported.servers;
+      leap_served = reported.leap;
+      links_served = reported.links;
     } in
     are_still_out g.O.Log.Source.state g.O.Log.Source.opening g.O.Net.Link.state g.O.Net.Link.opening c.args.station.now _ _ _ gear c.in_default-open_gear.ensures.opened
     (c.give_back_gate.ensures.same ∙ c.gate-gate.ensures.same) ended.gear
@@ -54,14 +54,14 @@ returns-in-Ok-ended-clause-tried g c =
     let of_logs : vec_len gear.logs ≡ length gear.logs.items = search rules in
     let of_servers : vec_len gear.servers ≡ length gear.servers.items = search rules in
     let of_links : vec_len gear.links ≡ length gear.links.items = search rules in
-    let told = c.in-Ok-ended.ensures in
+    let reported = c.in-Ok-ended.ensures in
     was_served g.O.Log.Source.state g.O.Log.Source.opening g.O.Net.Link.state g.O.Net.Link.opening c.args.station.now _ _ _ gear c.in_default-open_gear.ensures.opened
     (c.give_back_gate.ensures.same ∙ c.gate-gate.ensures.same) of_logs of_servers of_links c.in_default-open_gear.ensures.places c.args.orders c.in-Ok-ended.ended (record {
-      of_station = told.journal;
-      radios_served = told.radios;
-      servers_served = told.servers;
-      leap_served = told.leap;
-      links_served = told.links;
+      of_station = reported.journal;
+      radios_served = reported.radios;
+      servers_served = reported.servers;
+      leap_served = reported.leap;
+      links_served = reported.links;
     }) _ c.give_back_gear-in-Ok-ended.ensures.back
 
 pub returns-in-Err-ended-clause-tried : goal.returns-in-Err-ended-clause-tried

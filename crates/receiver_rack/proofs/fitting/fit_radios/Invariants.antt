@@ -1,6 +1,6 @@
 -- What stays true in the loops of `fitting::fit_radios`.
 use Rattle.std.proofs.Common.{◌≡◌, ◌≤◌, All, length, take, vec_capacity, vec_len}
-use Rattle.station_config.specs.Station.{IsStation}
+use Rattle.station_values.specs.Station.{IsStation}
 use Rattle.receiver_rack.specs.Racks.{HasFitted}
 use Rattle.receiver_rack.proofs.fitting.fit_radios.Given as goal
 

@@ -1,7 +1,7 @@
 -- What the search leaves open of `replay::open_and_play`.
 use Rattle.std.proofs.Common.{inr}
-use Rattle.feed_link.specs.Openings.{log_visit}
-use Rattle.feed_link.proofs.OpeningLaws.{opened_once, out_after}
+use Rattle.outside_traits.specs.Openings.{log_visit}
+use Rattle.outside_traits.proofs.OpeningLaws.{opened_once, out_after}
 use Rattle.replay_command.proofs.replay.open_and_play.Goals as goal
 
 pub give_back_log-requires : goal.give_back_log-requires

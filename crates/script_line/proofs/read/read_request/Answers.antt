@@ -6,39 +6,39 @@ use Rattle.script_line.proofs.read.read_request.Goals as goal
 
 pub returns-in_err-connection-clause-every : goal.returns-in_err-connection-clause-every
 returns-in_err-connection-clause-every c = λ connection arrived sent bytes h.
-    let connection_is = c.next_connection.ensures.every connection (decimal arrived ∷ decimal sent ∷ encode_lower bytes ∷ []) h.lawful.0 h.fields in
+    let connection_is = c.next_connection.ensures.every connection (decimal arrived ∷ decimal sent ∷ encode_lower bytes ∷ []) h.valid.0 h.fields in
     let none = c.in_err-connection.was in
     cc
 
 pub returns-in_err-arrived-clause-every : goal.returns-in_err-arrived-clause-every
 returns-in_err-arrived-clause-every c = λ connection arrived sent bytes h.
-    let order = h.lawful.1.order in
-    let below = h.lawful.1.below in
+    let order = h.valid.1.order in
+    let below = h.valid.1.below in
     let early : arrived < 2 ^ 50 = omega arith in
-    let connection_is = c.next_connection.ensures.every connection (decimal arrived ∷ decimal sent ∷ encode_lower bytes ∷ []) h.lawful.0 h.fields in
+    let connection_is = c.next_connection.ensures.every connection (decimal arrived ∷ decimal sent ∷ encode_lower bytes ∷ []) h.valid.0 h.fields in
     let arrived_is = c.next_moment.ensures.every arrived (decimal sent ∷ encode_lower bytes ∷ []) early connection_is.1 in
     let none = c.in_err-arrived.was in
     cc
 
 pub returns-in_err-sent-clause-every : goal.returns-in_err-sent-clause-every
 returns-in_err-sent-clause-every c = λ connection arrived sent bytes h.
-    let order = h.lawful.1.order in
-    let below = h.lawful.1.below in
+    let order = h.valid.1.order in
+    let below = h.valid.1.below in
     let early : arrived < 2 ^ 50 = omega arith in
-    let connection_is = c.next_connection.ensures.every connection (decimal arrived ∷ decimal sent ∷ encode_lower bytes ∷ []) h.lawful.0 h.fields in
+    let connection_is = c.next_connection.ensures.every connection (decimal arrived ∷ decimal sent ∷ encode_lower bytes ∷ []) h.valid.0 h.fields in
     let arrived_is = c.next_moment.ensures.every arrived (decimal sent ∷ encode_lower bytes ∷ []) early connection_is.1 in
-    let sent_is = c.next_moment-2.ensures.every sent (encode_lower bytes ∷ []) h.lawful.1.below arrived_is.1 in
+    let sent_is = c.next_moment-2.ensures.every sent (encode_lower bytes ∷ []) h.valid.1.below arrived_is.1 in
     let none = c.in_err-sent.was in
     cc
 
 pub returns-then-get-clause-every : goal.returns-then-get-clause-every
 returns-then-get-clause-every c = λ connection arrived sent bytes h.
-    let order = h.lawful.1.order in
-    let below = h.lawful.1.below in
+    let order = h.valid.1.order in
+    let below = h.valid.1.below in
     let early : arrived < 2 ^ 50 = omega arith in
-    let connection_is = c.next_connection.ensures.every connection (decimal arrived ∷ decimal sent ∷ encode_lower bytes ∷ []) h.lawful.0 h.fields in
+    let connection_is = c.next_connection.ensures.every connection (decimal arrived ∷ decimal sent ∷ encode_lower bytes ∷ []) h.valid.0 h.fields in
     let arrived_is = c.next_moment.ensures.every arrived (decimal sent ∷ encode_lower bytes ∷ []) early connection_is.1 in
-    let sent_is = c.next_moment-2.ensures.every sent (encode_lower bytes ∷ []) h.lawful.1.below arrived_is.1 in
+    let sent_is = c.next_moment-2.ensures.every sent (encode_lower bytes ∷ []) h.valid.1.below arrived_is.1 in
     let arrived_same : c.in_ok-arrived.arrived ≡ arrived = cc (arrived_is.0, c.in_ok-arrived.was) in
     let sent_same : c.in_ok-sent.sent ≡ sent = cc (sent_is.0, c.in_ok-sent.was) in
     let first = c.get.ensures.value in
@@ -48,13 +48,13 @@ returns-then-get-clause-every c = λ connection arrived sent bytes h.
 
 pub returns-in_err-datagram-clause-every : goal.returns-in_err-datagram-clause-every
 returns-in_err-datagram-clause-every c = λ connection arrived sent bytes h.
-    let order = h.lawful.1.order in
-    let below = h.lawful.1.below in
+    let order = h.valid.1.order in
+    let below = h.valid.1.below in
     let early : arrived < 2 ^ 50 = omega arith in
-    let connection_is = c.next_connection.ensures.every connection (decimal arrived ∷ decimal sent ∷ encode_lower bytes ∷ []) h.lawful.0 h.fields in
+    let connection_is = c.next_connection.ensures.every connection (decimal arrived ∷ decimal sent ∷ encode_lower bytes ∷ []) h.valid.0 h.fields in
     let arrived_is = c.next_moment.ensures.every arrived (decimal sent ∷ encode_lower bytes ∷ []) early connection_is.1 in
-    let sent_is = c.next_moment-2.ensures.every sent (encode_lower bytes ∷ []) h.lawful.1.below arrived_is.1 in
-    let datagram_is = c.datagram.ensures.every bytes h.lawful.2 sent_is.1 in
+    let sent_is = c.next_moment-2.ensures.every sent (encode_lower bytes ∷ []) h.valid.1.below arrived_is.1 in
+    let datagram_is = c.datagram.ensures.every bytes h.valid.2 sent_is.1 in
     let none = c.in_err-datagram.was in
     cc
 
@@ -68,17 +68,17 @@ returns-clause-line c =
     let second = c.get-2.ensures.value in
     let late = c.if-get.false in
     let ordered : c.in_ok-arrived.arrived ≤ c.in_ok-sent.sent = omega arith in
-    (record { lawful = (connection.0, record { order = ordered; below = sent.0 }, datagram.0); fields = connection.1 (decimal c.in_ok-arrived.arrived ∷ decimal c.in_ok-sent.sent ∷ encode_lower c.in_ok-datagram.datagram ∷ []) (arrived.1 (decimal c.in_ok-sent.sent ∷ encode_lower c.in_ok-datagram.datagram ∷ []) (sent.1 (encode_lower c.in_ok-datagram.datagram ∷ []) datagram.1)) }, refl)
+    (record { valid = (connection.0, record { order = ordered; below = sent.0 }, datagram.0); fields = connection.1 (decimal c.in_ok-arrived.arrived ∷ decimal c.in_ok-sent.sent ∷ encode_lower c.in_ok-datagram.datagram ∷ []) (arrived.1 (decimal c.in_ok-sent.sent ∷ encode_lower c.in_ok-datagram.datagram ∷ []) (sent.1 (encode_lower c.in_ok-datagram.datagram ∷ []) datagram.1)) }, refl)
 
 pub returns-clause-every : goal.returns-clause-every
 returns-clause-every c = λ connection arrived sent bytes h.
-    let order = h.lawful.1.order in
-    let below = h.lawful.1.below in
+    let order = h.valid.1.order in
+    let below = h.valid.1.below in
     let early : arrived < 2 ^ 50 = omega arith in
-    let connection_is = c.next_connection.ensures.every connection (decimal arrived ∷ decimal sent ∷ encode_lower bytes ∷ []) h.lawful.0 h.fields in
+    let connection_is = c.next_connection.ensures.every connection (decimal arrived ∷ decimal sent ∷ encode_lower bytes ∷ []) h.valid.0 h.fields in
     let arrived_is = c.next_moment.ensures.every arrived (decimal sent ∷ encode_lower bytes ∷ []) early connection_is.1 in
-    let sent_is = c.next_moment-2.ensures.every sent (encode_lower bytes ∷ []) h.lawful.1.below arrived_is.1 in
-    let datagram_is = c.datagram.ensures.every bytes h.lawful.2 sent_is.1 in
+    let sent_is = c.next_moment-2.ensures.every sent (encode_lower bytes ∷ []) h.valid.1.below arrived_is.1 in
+    let datagram_is = c.datagram.ensures.every bytes h.valid.2 sent_is.1 in
     let connection_same : c.in_ok-connection.connection ≡ connection = cc (connection_is.0, c.in_ok-connection.was) in
     let arrived_same : c.in_ok-arrived.arrived ≡ arrived = cc (arrived_is.0, c.in_ok-arrived.was) in
     let sent_same : c.in_ok-sent.sent ≡ sent = cc (sent_is.0, c.in_ok-sent.was) in

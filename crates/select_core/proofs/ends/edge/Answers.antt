@@ -21,7 +21,7 @@ loop-begun-preserved c =
     record {
       within = c.count_passed-ended.ensures.within;
       waits = waits-next from begins c.args.ends.now c.args.wanted order begun c.count_passed-ended.result at below c.come_to-at.ensures c.count_passed-ended.ensures.value c.if-ended-wanted.false c.loop-begun.invariant.waits;
-      front = λ j e up less k d small. passed-later from begins begun at (get_or (on_the_way from c.args.ends.now) k d) order c.come_to-at.ensures (c.count_passed-ended.ensures.front k d small) j e (omega arith) less;
+      prefix = λ j e up less k d small. passed-later from begins begun at (get_or (on_the_way from c.args.ends.now) k d) order c.come_to-at.ensures (c.count_passed-ended.ensures.prefix k d small) j e (omega arith) less;
     }
 
 pub returns : goal.returns

@@ -9,5 +9,5 @@ abbrev pub invariant-loop-begun : goal.invariant-loop-begun
 invariant-loop-begun l = record {
   within : l.ended ≤ length l.ends;
   waits : Waits l.from l.begins l.ends l.wanted l.begun;
-  front : (j : ℕ) (e : ℤ) → l.begun ≤ j → j < length l.begins → (k : ℕ) (d : ℤ) → k < l.ended → is_sooner l.from (get_or (on_the_way l.from l.ends) k d) (get_or (on_the_way l.from l.begins) j e) ≡ true;
+  prefix : (j : ℕ) (e : ℤ) → l.begun ≤ j → j < length l.begins → (k : ℕ) (d : ℤ) → k < l.ended → is_sooner l.from (get_or (on_the_way l.from l.ends) k d) (get_or (on_the_way l.from l.begins) j e) ≡ true;
 }

@@ -7,16 +7,16 @@ use Rattle.std.proofs.lemmas.List.Elements.{All-map}
 use Rattle.page_cell.specs.Claims.{IsTrueOf}
 use Rattle.page_cell.specs.Passes.{Known, KnownReader, claim_of}
 use Rattle.page_cell.specs.Views.{new_claim}
-use Rattle.station_config.specs.Station.{gate_of, kind_of_radio, kind_of_server, leap_feeds}
-use Rattle.station_crew.proofs.FeedLaws.{feeds_keep, leap_served, may_hear, may_notice, may_poll, radios_served, seen_all, servers_served}
+use Rattle.station_values.specs.Station.{gate_of, kind_of_radio, kind_of_server, leap_feeds}
+use Rattle.station_crew.proofs.FeedLaws.{feeds_keep, leap_served, may_receive, may_notice, may_poll, radios_served, seen_all, servers_served}
 use Rattle.station_crew.proofs.LinkLaws.{links_served, readers_are, served_twice}
 use Rattle.crew_work.proofs.ListLaws.{each_keeps, leap_feeds-length, length-is-some, pairs_keep, pairs_length}
-use Rattle.station_crew.specs.Crews.{HasRoomToLeave, IsNewReader}
+use Rattle.station_crew.specs.Crews.{HasRoomToCollect, IsNewReader}
 use Rattle.station_crew.specs.Jobs.{HasServed, HasServedAgain}
-use Rattle.station_crew.specs.Leaving.{file_of, link_of, log_of, passes_of, serve_pass, server_link}
+use Rattle.station_crew.specs.Collecting.{file_of, link_of, log_of, passes_of, serve_pass, server_link}
 use Rattle.crew_work.specs.Lists.{Pairs}
 use Rattle.crew_work.specs.Served.{LeapServed, LinksServed, RadiosServed, ServersServed, column_of, seen, service_of}
-use Rattle.station_crew.specs.Telling.{HasSeenAll, WasTold}
+use Rattle.station_crew.specs.Informing.{HasSeenAll, WasInformed}
 use Rattle.system_fold.specs.Settings.{IsJournal, IsKept, SettingsFields}
 use Rattle.verdict_journal.specs.Journals.{HasRead}
 use Rattle.station_crew.proofs.named.serve_named.Goals as goal
@@ -31,8 +31,8 @@ few_of n m same le = omega arith
 adds_up : (f s both l r p a b d : ℕ) → f ≡ s → s ≡ both + l → both ≡ r + p → r ≡ a → p ≡ b → l ≡ d → f ≡ a + b + d
 adds_up f s both l r p a b d count whole most radios servers leap = omega arith
 
-pub man_crew-crew-requires-clause-feeds : goal.man_crew-crew-requires-clause-feeds
-man_crew-crew-requires-clause-feeds g c κs within =
+pub assign_crew-crew-requires-clause-feeds : goal.assign_crew-crew-requires-clause-feeds
+assign_crew-crew-requires-clause-feeds g c κs within =
     let feeds = c.in-Ok.parts.feeds in
     let of = c.args.station.now in
     let given = c.args.room.parts.feeds.items in
@@ -44,22 +44,22 @@ man_crew-crew-requires-clause-feeds g c κs within =
     (length-append (map kind_of_radio of.radios ++ map kind_of_server of.servers) (leap_feeds of.leap_file))
     (length-append (map kind_of_radio of.radios) (map kind_of_server of.servers))
     (length-map of.radios kind_of_radio ∙ sym c.requires.gear.logs) (length-map of.servers kind_of_server ∙ sym c.requires.gear.servers)
-    (leap_feeds-length of.leap_file ∙ sym (length-is-some c.args.kit.gear.leap of.leap_file c.requires.gear.leap))
+    (leap_feeds-length of.leap_file ∙ sym (length-is-some c.args.equipment.gear.leap of.leap_file c.requires.gear.leap))
 
 pub run_first-requires-clause-radios : goal.run_first-requires-clause-radios
 run_first-requires-clause-radios g c κs within =
     let N = g.N.HubName in
-    let crew = c.man_crew-crew.result in
-    let is = c.man_crew-crew.ensures.feeds ∙ c.in-Ok.ensures.passes.0 in
+    let crew = c.assign_crew-crew.result in
+    let is = c.assign_crew-crew.ensures.feeds ∙ c.in-Ok.ensures.passes.0 in
     let claims = ap (λ l. map (λ (f : Known). claim_of f.view) l) is ∙ c.requires.claims in
     let tables = subst (All (λ (f : Known). f.table ≡ N.table)) (sym is) c.requires.feeds in
-    record { all = may_hear N.table (length N.settings.sources) crew.radios.items crew.pollers.items crew.leap claims tables _ _ c.args.kit.receivers.items c.man_crew-crew.ensures.manned.receivers_are }
+    record { all = may_receive N.table (length N.settings.sources) crew.radios.items crew.pollers.items crew.leap claims tables _ _ c.args.equipment.receivers.items c.assign_crew-crew.ensures.assigned.receivers_are }
 
 pub run_first-requires-clause-pollers : goal.run_first-requires-clause-pollers
 run_first-requires-clause-pollers g c κs within =
     let N = g.N.HubName in
-    let crew = c.man_crew-crew.result in
-    let is = c.man_crew-crew.ensures.feeds ∙ c.in-Ok.ensures.passes.0 in
+    let crew = c.assign_crew-crew.result in
+    let is = c.assign_crew-crew.ensures.feeds ∙ c.in-Ok.ensures.passes.0 in
     let claims = ap (λ l. map (λ (f : Known). claim_of f.view) l) is ∙ c.requires.claims in
     let tables = subst (All (λ (f : Known). f.table ≡ N.table)) (sym is) c.requires.feeds in
     record { all = may_poll N.table (length N.settings.sources) crew.radios.items crew.pollers.items crew.leap claims tables }
@@ -67,8 +67,8 @@ run_first-requires-clause-pollers g c κs within =
 pub run_first-requires-clause-leap : goal.run_first-requires-clause-leap
 run_first-requires-clause-leap g c κs within =
     let N = g.N.HubName in
-    let crew = c.man_crew-crew.result in
-    let is = c.man_crew-crew.ensures.feeds ∙ c.in-Ok.ensures.passes.0 in
+    let crew = c.assign_crew-crew.result in
+    let is = c.assign_crew-crew.ensures.feeds ∙ c.in-Ok.ensures.passes.0 in
     let claims = ap (λ l. map (λ (f : Known). claim_of f.view) l) is ∙ c.requires.claims in
     let tables = subst (All (λ (f : Known). f.table ≡ N.table)) (sym is) c.requires.feeds in
     may_notice N.table (length N.settings.sources) crew.radios.items crew.pollers.items crew.leap claims tables
@@ -76,118 +76,118 @@ run_first-requires-clause-leap g c κs within =
 pub run_first-requires-clause-responders : goal.run_first-requires-clause-responders
 run_first-requires-clause-responders g c κs within =
     let table = g.N.HubName.table in
-    let readers = c.man_crew-crew.ensures.readers ∙ c.in-Ok.ensures.passes.1 in
-    record { all = readers_are table c.man_crew-crew.result.responders.items (subst (All (IsNewReader table)) (sym readers) c.requires.readers) }
+    let readers = c.assign_crew-crew.ensures.readers ∙ c.in-Ok.ensures.passes.1 in
+    record { all = readers_are table c.assign_crew-crew.result.responders.items (subst (All (IsNewReader table)) (sym readers) c.requires.readers) }
 
-pub leave_feeds-responders-requires-after_bounds : goal.leave_feeds-responders-requires-after_bounds
-leave_feeds-responders-requires-after_bounds g c κs within =
+pub collect_feeds-responders-requires-after_bounds : goal.collect_feeds-responders-requires-after_bounds
+collect_feeds-responders-requires-after_bounds g c κs within =
     let now = c.run_first.new.crew in
-    let m = c.man_crew-crew.ensures.manned in
-    let crew = c.man_crew-crew.result in
-    let gear = c.args.kit.gear in
+    let m = c.assign_crew-crew.ensures.assigned in
+    let crew = c.assign_crew-crew.result in
+    let gear = c.args.equipment.gear in
     let radios : vec_len gear.logs ≡ vec_len now.radios = gear.logs.ok.0 ∙ sym (ap length m.logs) ∙ length-map crew.radios.items log_of ∙ sym crew.radios.ok.0 ∙ sym c.run_first.ensures.counts.0 in
     let pollers : vec_len gear.servers ≡ vec_len now.pollers = gear.servers.ok.0 ∙ sym (ap length m.servers) ∙ length-map crew.pollers.items server_link ∙ sym crew.pollers.ok.0 ∙ sym c.run_first.ensures.counts.1 in
     let responders : vec_len gear.links ≡ vec_len now.responders = gear.links.ok.0 ∙ sym (ap length m.links) ∙ length-map crew.responders.items link_of ∙ sym crew.responders.ok.0 ∙ sym c.run_first.ensures.counts.2 in
-    subst (λ n. HasRoomToLeave n (vec_len now.pollers) (vec_len now.responders) c.args.room.left) radios
-    (subst (λ n. HasRoomToLeave (vec_len gear.logs) n (vec_len now.responders) c.args.room.left) pollers
-    (subst (λ n. HasRoomToLeave (vec_len gear.logs) (vec_len gear.servers) n c.args.room.left) responders c.requires.room.left))
+    subst (λ n. HasRoomToCollect n (vec_len now.pollers) (vec_len now.responders) c.args.room.collected) radios
+    (subst (λ n. HasRoomToCollect (vec_len gear.logs) n (vec_len now.responders) c.args.room.collected) pollers
+    (subst (λ n. HasRoomToCollect (vec_len gear.logs) (vec_len gear.servers) n c.args.room.collected) responders c.requires.room.collected))
 
-pub tell_responders-requires-clause-feeds : goal.tell_responders-requires-clause-feeds
-tell_responders-requires-clause-feeds g c κs within =
+pub inform_responders-requires-clause-feeds : goal.inform_responders-requires-clause-feeds
+inform_responders-requires-clause-feeds g c κs within =
     let N = g.N.HubName in
-    let crew = c.man_crew-crew.result in
+    let crew = c.assign_crew-crew.result in
     let now = c.run_first.new.crew in
     let e = c.run_first.ensures in
-    let is = c.man_crew-crew.ensures.feeds ∙ c.in-Ok.ensures.passes.0 in
+    let is = c.assign_crew-crew.ensures.feeds ∙ c.in-Ok.ensures.passes.0 in
     let claims = ap (λ l. map (λ (f : Known). claim_of f.view) l) is ∙ c.requires.claims in
     let tables = subst (All (λ (f : Known). f.table ≡ N.table)) (sym is) c.requires.feeds in
-    subst (λ t. All (λ (f : Known). f.table ≡ t) c.leave_feeds-responders.result.1.passes.feeds.items) (sym c.cell.ensures)
-    (subst (All (λ (f : Known). f.table ≡ N.table)) (sym c.leave_feeds-responders.ensures.feeds.feeds)
+    subst (λ t. All (λ (f : Known). f.table ≡ t) c.collect_feeds-responders.result.1.passes.feeds.items) (sym c.cell.ensures)
+    (subst (All (λ (f : Known). f.table ≡ N.table)) (sym c.collect_feeds-responders.ensures.feeds.feeds)
     (feeds_keep N.table (length N.settings.sources) crew.radios.items crew.pollers.items crew.leap claims tables _ g.L.Source.state g.L.Source.opening g.T.Link.state g.T.Link.opening N.limit now.radios.items now.pollers.items now.leap e.radios (sym now.radios.ok.0 ∙ e.counts.0 ∙ crew.radios.ok.0) e.pollers (sym now.pollers.ok.0 ∙ e.counts.1 ∙ crew.pollers.ok.0) e.leap))
 
-pub tell_responders-requires-clause-readers : goal.tell_responders-requires-clause-readers
-tell_responders-requires-clause-readers g c κs within =
+pub inform_responders-requires-clause-readers : goal.inform_responders-requires-clause-readers
+inform_responders-requires-clause-readers g c κs within =
     let table = g.N.HubName.table in
-    let xs = c.man_crew-crew.result.responders.items in
+    let xs = c.assign_crew-crew.result.responders.items in
     let ys = c.run_first.new.crew.responders.items in
-    let readers = c.man_crew-crew.ensures.readers ∙ c.in-Ok.ensures.passes.1 in
-    let same : length ys ≡ length xs = sym c.run_first.new.crew.responders.ok.0 ∙ c.run_first.ensures.counts.2 ∙ c.man_crew-crew.result.responders.ok.0 in
+    let readers = c.assign_crew-crew.ensures.readers ∙ c.in-Ok.ensures.passes.1 in
+    let same : length ys ≡ length xs = sym c.run_first.new.crew.responders.ok.0 ∙ c.run_first.ensures.counts.2 ∙ c.assign_crew-crew.result.responders.ok.0 in
     let first = each_keeps (λ x. x.responder.pass.table ≡ table) (HasServed g.T.Link.state g.T.Link.opening c.args.orders.budget.during) (λ a b r h. r.same.table ∙ h) xs ys c.run_first.ensures.responders same
     (readers_are table xs (subst (All (IsNewReader table)) (sym readers) c.requires.readers)) in
-    subst (λ t. All (λ x. x.responder.pass.table ≡ t) c.leave_feeds-responders.result.0.items) (sym c.cell.ensures)
-    (subst (λ v. All (λ x. x.responder.pass.table ≡ table) v.items) (sym c.leave_feeds-responders.ensures.responders) first)
+    subst (λ t. All (λ x. x.responder.pass.table ≡ t) c.collect_feeds-responders.result.0.items) (sym c.cell.ensures)
+    (subst (λ v. All (λ x. x.responder.pass.table ≡ table) v.items) (sym c.collect_feeds-responders.ensures.responders) first)
 
-pub tell_responders-requires-clause-few : goal.tell_responders-requires-clause-few
-tell_responders-requires-clause-few g c κs within =
-    let crew = c.man_crew-crew.result in
-    let gear = c.args.kit.gear in
-    let count : vec_len c.leave_feeds-responders.result.0 ≡ vec_len gear.links =
-    ap vec_len c.leave_feeds-responders.ensures.responders ∙ c.run_first.ensures.counts.2 ∙ crew.responders.ok.0 ∙ sym (length-map crew.responders.items link_of) ∙ ap length c.man_crew-crew.ensures.manned.links ∙ sym gear.links.ok.0 in
-    subst (λ n. n ≤ 8) (sym count) (few_of (vec_len c.args.kit.gear.links) (length c.args.station.now.links) c.requires.gear.links c.requires.station.ports)
+pub inform_responders-requires-clause-few : goal.inform_responders-requires-clause-few
+inform_responders-requires-clause-few g c κs within =
+    let crew = c.assign_crew-crew.result in
+    let gear = c.args.equipment.gear in
+    let count : vec_len c.collect_feeds-responders.result.0 ≡ vec_len gear.links =
+    ap vec_len c.collect_feeds-responders.ensures.responders ∙ c.run_first.ensures.counts.2 ∙ crew.responders.ok.0 ∙ sym (length-map crew.responders.items link_of) ∙ ap length c.assign_crew-crew.ensures.assigned.links ∙ sym gear.links.ok.0 in
+    subst (λ n. n ≤ 8) (sym count) (few_of (vec_len c.args.equipment.gear.links) (length c.args.station.now.links) c.requires.gear.links c.requires.station.ports)
 
-pub tell_responders-requires-clause-room : goal.tell_responders-requires-clause-room
-tell_responders-requires-clause-room g c κs within =
-    let crew = c.man_crew-crew.result in
-    let gear = c.args.kit.gear in
-    let count : vec_len c.leave_feeds-responders.result.0 ≡ vec_len gear.links =
-    ap vec_len c.leave_feeds-responders.ensures.responders ∙ c.run_first.ensures.counts.2 ∙ crew.responders.ok.0 ∙ sym (length-map crew.responders.items link_of) ∙ ap length c.man_crew-crew.ensures.manned.links ∙ sym gear.links.ok.0 in
-    subst (λ n. n ≤ vec_capacity c.args.room.told) (sym count) c.requires.room.told
+pub inform_responders-requires-clause-room : goal.inform_responders-requires-clause-room
+inform_responders-requires-clause-room g c κs within =
+    let crew = c.assign_crew-crew.result in
+    let gear = c.args.equipment.gear in
+    let count : vec_len c.collect_feeds-responders.result.0 ≡ vec_len gear.links =
+    ap vec_len c.collect_feeds-responders.ensures.responders ∙ c.run_first.ensures.counts.2 ∙ crew.responders.ok.0 ∙ sym (length-map crew.responders.items link_of) ∙ ap length c.assign_crew-crew.ensures.assigned.links ∙ sym gear.links.ok.0 in
+    subst (λ n. n ≤ vec_capacity c.args.room.informed) (sym count) c.requires.room.informed
 
 pub run_second-requires-after_bounds : goal.run_second-requires-after_bounds
 run_second-requires-after_bounds g c κs within =
     let table = g.N.HubName.table in
-    let xs = c.man_crew-crew.result.responders.items in
+    let xs = c.assign_crew-crew.result.responders.items in
     let ys = c.run_first.new.crew.responders.items in
-    let readers = c.man_crew-crew.ensures.readers ∙ c.in-Ok.ensures.passes.1 in
-    let same : length ys ≡ length xs = sym c.run_first.new.crew.responders.ok.0 ∙ c.run_first.ensures.counts.2 ∙ c.man_crew-crew.result.responders.ok.0 in
+    let readers = c.assign_crew-crew.ensures.readers ∙ c.in-Ok.ensures.passes.1 in
+    let same : length ys ≡ length xs = sym c.run_first.new.crew.responders.ok.0 ∙ c.run_first.ensures.counts.2 ∙ c.assign_crew-crew.result.responders.ok.0 in
     let first = each_keeps (λ x. x.responder.pass.table ≡ table) (HasServed g.T.Link.state g.T.Link.opening c.args.orders.budget.during) (λ a b r h. r.same.table ∙ h) xs ys c.run_first.ensures.responders same
     (readers_are table xs (subst (All (IsNewReader table)) (sym readers) c.requires.readers)) in
-    pairs_keep (λ x. x.responder.pass.table ≡ table) (λ x. x.responder.pass.table ≡ table) (WasTold c.leave_feeds-responders.result.1.passes.feeds.items) (λ x y t h. t.learnt.table ∙ h) c.leave_feeds-responders.result.0.items c.tell_responders.new.told.items c.tell_responders.ensures.told
-    (subst (λ v. All (λ x. x.responder.pass.table ≡ table) v.items) (sym c.leave_feeds-responders.ensures.responders) first)
+    pairs_keep (λ x. x.responder.pass.table ≡ table) (λ x. x.responder.pass.table ≡ table) (WasInformed c.collect_feeds-responders.result.1.passes.feeds.items) (λ x y t h. t.learnt.table ∙ h) c.collect_feeds-responders.result.0.items c.inform_responders.new.informed.items c.inform_responders.ensures.informed
+    (subst (λ v. All (λ x. x.responder.pass.table ≡ table) v.items) (sym c.collect_feeds-responders.ensures.responders) first)
 
-pub leave_responders-requires-clause-links : goal.leave_responders-requires-clause-links
-leave_responders-requires-clause-links g c κs within =
-    let room = c.leave_feeds-responders.ensures.room in
-    let had = c.leave_feeds-responders.result.1.gear.links in
-    let given = c.leave_feeds-responders.result.0 in
-    let told = c.tell_responders.new.told in
+pub collect_responders-requires-clause-links : goal.collect_responders-requires-clause-links
+collect_responders-requires-clause-links g c κs within =
+    let room = c.collect_feeds-responders.ensures.room in
+    let had = c.collect_feeds-responders.result.1.gear.links in
+    let given = c.collect_feeds-responders.result.0 in
+    let informed = c.inform_responders.new.informed in
     let now = c.run_first.new.crew in
-    let n = pairs_length (WasTold c.leave_feeds-responders.result.1.passes.feeds.items) given.items told.items c.tell_responders.ensures.told in
-    let count = c.run_second.ensures.count ∙ told.ok.0 ∙ n ∙ sym given.ok.0 ∙ ap vec_len c.leave_feeds-responders.ensures.responders in
+    let n = pairs_length (WasInformed c.collect_feeds-responders.result.1.passes.feeds.items) given.items informed.items c.inform_responders.ensures.informed in
+    let count = c.run_second.ensures.count ∙ informed.ok.0 ∙ n ∙ sym given.ok.0 ∙ ap vec_len c.collect_feeds-responders.ensures.responders in
     fits_left (vec_len had) (vec_len c.run_second.new.jobs) (vec_len now.responders) (vec_capacity had) (had.ok.0 ∙ ap length room.no_links) count room.links
 
-pub leave_responders-requires-clause-works : goal.leave_responders-requires-clause-works
-leave_responders-requires-clause-works g c κs within =
-    let room = c.leave_feeds-responders.ensures.room in
-    let had = c.leave_feeds-responders.result.1.work.links in
-    let given = c.leave_feeds-responders.result.0 in
-    let told = c.tell_responders.new.told in
+pub collect_responders-requires-clause-works : goal.collect_responders-requires-clause-works
+collect_responders-requires-clause-works g c κs within =
+    let room = c.collect_feeds-responders.ensures.room in
+    let had = c.collect_feeds-responders.result.1.work.links in
+    let given = c.collect_feeds-responders.result.0 in
+    let informed = c.inform_responders.new.informed in
     let now = c.run_first.new.crew in
-    let n = pairs_length (WasTold c.leave_feeds-responders.result.1.passes.feeds.items) given.items told.items c.tell_responders.ensures.told in
-    let count = c.run_second.ensures.count ∙ told.ok.0 ∙ n ∙ sym given.ok.0 ∙ ap vec_len c.leave_feeds-responders.ensures.responders in
+    let n = pairs_length (WasInformed c.collect_feeds-responders.result.1.passes.feeds.items) given.items informed.items c.inform_responders.ensures.informed in
+    let count = c.run_second.ensures.count ∙ informed.ok.0 ∙ n ∙ sym given.ok.0 ∙ ap vec_len c.collect_feeds-responders.ensures.responders in
     fits_left (vec_len had) (vec_len c.run_second.new.jobs) (vec_len now.responders) (vec_capacity had) (had.ok.0 ∙ ap length room.no_works) count room.works
 
-pub leave_responders-requires-clause-readers : goal.leave_responders-requires-clause-readers
-leave_responders-requires-clause-readers g c κs within =
-    let room = c.leave_feeds-responders.ensures.room in
-    let had = c.leave_feeds-responders.result.1.passes.readers in
-    let given = c.leave_feeds-responders.result.0 in
-    let told = c.tell_responders.new.told in
+pub collect_responders-requires-clause-readers : goal.collect_responders-requires-clause-readers
+collect_responders-requires-clause-readers g c κs within =
+    let room = c.collect_feeds-responders.ensures.room in
+    let had = c.collect_feeds-responders.result.1.passes.readers in
+    let given = c.collect_feeds-responders.result.0 in
+    let informed = c.inform_responders.new.informed in
     let now = c.run_first.new.crew in
-    let n = pairs_length (WasTold c.leave_feeds-responders.result.1.passes.feeds.items) given.items told.items c.tell_responders.ensures.told in
-    let count = c.run_second.ensures.count ∙ told.ok.0 ∙ n ∙ sym given.ok.0 ∙ ap vec_len c.leave_feeds-responders.ensures.responders in
+    let n = pairs_length (WasInformed c.collect_feeds-responders.result.1.passes.feeds.items) given.items informed.items c.inform_responders.ensures.informed in
+    let count = c.run_second.ensures.count ∙ informed.ok.0 ∙ n ∙ sym given.ok.0 ∙ ap vec_len c.collect_feeds-responders.ensures.responders in
     fits_left (vec_len had) (vec_len c.run_second.new.jobs) (vec_len now.responders) (vec_capacity had) (had.ok.0 ∙ ap length room.no_readers) count room.readers
 
 pub close-requires-clause-feeds : goal.close-requires-clause-feeds
 close-requires-clause-feeds g c =
     let N = g.N.HubName in
-    let crew = c.man_crew-crew.result in
+    let crew = c.assign_crew-crew.result in
     let now = c.run_first.new.crew in
     let e = c.run_first.ensures in
-    let is = c.man_crew-crew.ensures.feeds ∙ c.in-Ok.ensures.passes.0 in
+    let is = c.assign_crew-crew.ensures.feeds ∙ c.in-Ok.ensures.passes.0 in
     let claims = ap (λ l. map (λ (f : Known). claim_of f.view) l) is ∙ c.requires.claims in
     let tables = subst (All (λ (f : Known). f.table ≡ N.table)) (sym is) c.requires.feeds in
-    let feeds = c.tell_responders.ensures.same ∙ c.leave_feeds-responders.ensures.feeds.feeds in
+    let feeds = c.inform_responders.ensures.same ∙ c.collect_feeds-responders.ensures.feeds.feeds in
     subst (All (λ (f : Known). f.table ≡ N.table)) (sym feeds)
     (feeds_keep N.table (length N.settings.sources) crew.radios.items crew.pollers.items crew.leap claims tables _ g.L.Source.state g.L.Source.opening g.T.Link.state g.T.Link.opening N.limit now.radios.items now.pollers.items now.leap e.radios (sym now.radios.ok.0 ∙ e.counts.0 ∙ crew.radios.ok.0) e.pollers (sym now.pollers.ok.0 ∙ e.counts.1 ∙ crew.pollers.ok.0) e.leap)
 
@@ -195,136 +195,136 @@ pub close-requires-clause-readers : goal.close-requires-clause-readers
 close-requires-clause-readers g c =
     let table = g.N.HubName.table in
     let P : KnownReader → Type 0 = λ f. f.table ≡ table in
-    let xs = c.man_crew-crew.result.responders.items in
+    let xs = c.assign_crew-crew.result.responders.items in
     let ys = c.run_first.new.crew.responders.items in
-    let zs = c.tell_responders.new.told.items in
+    let zs = c.inform_responders.new.informed.items in
     let ws = c.run_second.new.jobs.items in
-    let readers = c.man_crew-crew.ensures.readers ∙ c.in-Ok.ensures.passes.1 in
-    let same : length ys ≡ length xs = sym c.run_first.new.crew.responders.ok.0 ∙ c.run_first.ensures.counts.2 ∙ c.man_crew-crew.result.responders.ok.0 in
-    let again : length ws ≡ length zs = sym c.run_second.new.jobs.ok.0 ∙ c.run_second.ensures.count ∙ c.tell_responders.new.told.ok.0 in
+    let readers = c.assign_crew-crew.ensures.readers ∙ c.in-Ok.ensures.passes.1 in
+    let same : length ys ≡ length xs = sym c.run_first.new.crew.responders.ok.0 ∙ c.run_first.ensures.counts.2 ∙ c.assign_crew-crew.result.responders.ok.0 in
+    let again : length ws ≡ length zs = sym c.run_second.new.jobs.ok.0 ∙ c.run_second.ensures.count ∙ c.inform_responders.new.informed.ok.0 in
     let first = each_keeps (λ x. x.responder.pass.table ≡ table) (HasServed g.T.Link.state g.T.Link.opening c.args.orders.budget.during) (λ a b r h. r.same.table ∙ h) xs ys c.run_first.ensures.responders same
     (readers_are table xs (subst (All (IsNewReader table)) (sym readers) c.requires.readers)) in
-    let told = pairs_keep (λ x. x.responder.pass.table ≡ table) (λ x. x.responder.pass.table ≡ table) (WasTold c.leave_feeds-responders.result.1.passes.feeds.items) (λ x y t h. t.learnt.table ∙ h) c.leave_feeds-responders.result.0.items zs c.tell_responders.ensures.told
-    (subst (λ v. All (λ x. x.responder.pass.table ≡ table) v.items) (sym c.leave_feeds-responders.ensures.responders) first) in
-    let second = each_keeps (λ x. x.responder.pass.table ≡ table) (HasServedAgain g.T.Link.state g.T.Link.opening c.args.orders.budget.after) (λ a b r h. r.same.table ∙ h) zs ws c.run_second.ensures.served again told in
-    subst (All P) (sym (c.leave_responders.ensures.readers ∙ ap (λ l. l ++ map serve_pass ws) c.leave_feeds-responders.ensures.room.no_readers)) (All-map P serve_pass ws second)
+    let informed = pairs_keep (λ x. x.responder.pass.table ≡ table) (λ x. x.responder.pass.table ≡ table) (WasInformed c.collect_feeds-responders.result.1.passes.feeds.items) (λ x y t h. t.learnt.table ∙ h) c.collect_feeds-responders.result.0.items zs c.inform_responders.ensures.informed
+    (subst (λ v. All (λ x. x.responder.pass.table ≡ table) v.items) (sym c.collect_feeds-responders.ensures.responders) first) in
+    let second = each_keeps (λ x. x.responder.pass.table ≡ table) (HasServedAgain g.T.Link.state g.T.Link.opening c.args.orders.budget.after) (λ a b r h. r.same.table ∙ h) zs ws c.run_second.ensures.served again informed in
+    subst (All P) (sym (c.collect_responders.ensures.readers ∙ ap (λ l. l ++ map serve_pass ws) c.collect_feeds-responders.ensures.room.no_readers)) (All-map P serve_pass ws second)
 
 pub returns-clause-journal : goal.returns-clause-journal
 returns-clause-journal g c = record {
   settings_are = c.close.ensures.settings ∙ sym c.requires.settings.1;
   limit_is = c.close.ensures.limit ∙ sym c.requires.limit.0;
   within = subst (λ n. length c.close.result.entries ≤ n) (sym c.requires.limit.0) c.close.ensures.within;
-  lawful = subst (λ (s : SettingsFields). IsJournal s c.close.result.entries) (c.close.ensures.settings ∙ sym c.requires.settings.1) c.close.ensures.lawful;
+  valid = subst (λ (s : SettingsFields). IsJournal s c.close.result.entries) (c.close.ensures.settings ∙ sym c.requires.settings.1) c.close.ensures.valid;
 }
 
 pub returns-clause-radios : goal.returns-clause-radios
 returns-clause-radios g c =
     let N = g.N.HubName in
-    let m = c.man_crew-crew.ensures.manned in
-    let crew = c.man_crew-crew.result in
+    let m = c.assign_crew-crew.ensures.assigned in
+    let crew = c.assign_crew-crew.result in
     let now = c.run_first.new.crew in
     let e = c.run_first.ensures in
-    let left = c.leave_feeds-responders.result.1 in
-    let f = c.leave_feeds-responders.ensures.feeds in
+    let collected = c.collect_feeds-responders.result.1 in
+    let f = c.collect_feeds-responders.ensures.feeds in
     let j = c.close.result.entries in
     let of = c.args.station.now in
-    let is = c.man_crew-crew.ensures.feeds ∙ c.in-Ok.ensures.passes.0 in
+    let is = c.assign_crew-crew.ensures.feeds ∙ c.in-Ok.ensures.passes.0 in
     let claims = ap (λ l. map (λ (f : Known). claim_of f.view) l) is ∙ c.requires.claims in
-    let feeds = c.tell_responders.ensures.same ∙ f.feeds in
+    let feeds = c.inform_responders.ensures.same ∙ f.feeds in
     let all = subst (All (λ (f : Known). IsTrueOf j (claim_of f.view))) feeds c.close.ensures.feeds in
-    let told = radios_served g.L.Source.state g.L.Source.opening g.T.Link.state g.T.Link.opening N.limit (length N.settings.sources) j crew.radios.items now.radios.items crew.pollers.items now.pollers.items crew.leap now.leap claims e.radios (sym now.radios.ok.0 ∙ e.counts.0 ∙ crew.radios.ok.0) e.pollers (sym now.pollers.ok.0 ∙ e.counts.1 ∙ crew.pollers.ok.0) e.leap all _ of.radios c.args.kit.receivers.items c.requires.blank m.receivers_are c.close.ensures.within in
-    subst (λ n. RadiosServed (seen g.L.Source.state g.L.Source.opening) of.radios (column_of 0 n j) c.args.kit.gear.logs.items left.gear.logs.items left.work.radios.items) (sym c.requires.limit.0)
-    (subst (λ l. RadiosServed (seen g.L.Source.state g.L.Source.opening) of.radios (column_of 0 N.limit j) l left.gear.logs.items left.work.radios.items) m.logs
-    (subst (λ l. RadiosServed (seen g.L.Source.state g.L.Source.opening) of.radios (column_of 0 N.limit j) (map log_of crew.radios.items) l left.work.radios.items) (sym f.logs)
-    (subst (λ l. RadiosServed (seen g.L.Source.state g.L.Source.opening) of.radios (column_of 0 N.limit j) (map log_of crew.radios.items) (map log_of now.radios.items) l) (sym f.log_works) told)))
+    let informed = radios_served g.L.Source.state g.L.Source.opening g.T.Link.state g.T.Link.opening N.limit (length N.settings.sources) j crew.radios.items now.radios.items crew.pollers.items now.pollers.items crew.leap now.leap claims e.radios (sym now.radios.ok.0 ∙ e.counts.0 ∙ crew.radios.ok.0) e.pollers (sym now.pollers.ok.0 ∙ e.counts.1 ∙ crew.pollers.ok.0) e.leap all _ of.radios c.args.equipment.receivers.items c.requires.blank m.receivers_are c.close.ensures.within in
+    subst (λ n. RadiosServed (seen g.L.Source.state g.L.Source.opening) of.radios (column_of 0 n j) c.args.equipment.gear.logs.items collected.gear.logs.items collected.work.radios.items) (sym c.requires.limit.0)
+    (subst (λ l. RadiosServed (seen g.L.Source.state g.L.Source.opening) of.radios (column_of 0 N.limit j) l collected.gear.logs.items collected.work.radios.items) m.logs
+    (subst (λ l. RadiosServed (seen g.L.Source.state g.L.Source.opening) of.radios (column_of 0 N.limit j) (map log_of crew.radios.items) l collected.work.radios.items) (sym f.logs)
+    (subst (λ l. RadiosServed (seen g.L.Source.state g.L.Source.opening) of.radios (column_of 0 N.limit j) (map log_of crew.radios.items) (map log_of now.radios.items) l) (sym f.log_works) informed)))
 
 pub returns-clause-servers : goal.returns-clause-servers
 returns-clause-servers g c =
     let N = g.N.HubName in
-    let m = c.man_crew-crew.ensures.manned in
-    let crew = c.man_crew-crew.result in
+    let m = c.assign_crew-crew.ensures.assigned in
+    let crew = c.assign_crew-crew.result in
     let now = c.run_first.new.crew in
     let e = c.run_first.ensures in
-    let left = c.leave_feeds-responders.result.1 in
-    let f = c.leave_feeds-responders.ensures.feeds in
+    let collected = c.collect_feeds-responders.result.1 in
+    let f = c.collect_feeds-responders.ensures.feeds in
     let j = c.close.result.entries in
     let of = c.args.station.now in
-    let is = c.man_crew-crew.ensures.feeds ∙ c.in-Ok.ensures.passes.0 in
+    let is = c.assign_crew-crew.ensures.feeds ∙ c.in-Ok.ensures.passes.0 in
     let claims = ap (λ l. map (λ (f : Known). claim_of f.view) l) is ∙ c.requires.claims in
-    let feeds = c.tell_responders.ensures.same ∙ f.feeds in
+    let feeds = c.inform_responders.ensures.same ∙ f.feeds in
     let all = subst (All (λ (f : Known). IsTrueOf j (claim_of f.view))) feeds c.close.ensures.feeds in
-    let one : vec_len c.args.kit.gear.logs ≡ length c.args.kit.gear.logs.items = c.args.kit.gear.logs.ok.0 in
+    let one : vec_len c.args.equipment.gear.logs ≡ length c.args.equipment.gear.logs.items = c.args.equipment.gear.logs.ok.0 in
     let first : length crew.radios.items ≡ length of.radios = sym (length-map crew.radios.items log_of) ∙ ap length m.logs ∙ sym one ∙ c.requires.gear.logs in
-    let told = servers_served g.L.Source.state g.L.Source.opening g.T.Link.state g.T.Link.opening N.limit (length N.settings.sources) j crew.radios.items now.radios.items crew.pollers.items now.pollers.items crew.leap now.leap claims e.radios (sym now.radios.ok.0 ∙ e.counts.0 ∙ crew.radios.ok.0) e.pollers (sym now.pollers.ok.0 ∙ e.counts.1 ∙ crew.pollers.ok.0) e.leap all of.servers m.asked c.close.ensures.within in
-    subst (λ n. ServersServed (seen g.T.Link.state g.T.Link.opening) of.servers (column_of (length of.radios) n j) c.args.kit.gear.servers.items left.gear.servers.items left.work.servers.items) (sym c.requires.limit.0)
-    (subst (λ n. ServersServed (seen g.T.Link.state g.T.Link.opening) of.servers (column_of n N.limit j) c.args.kit.gear.servers.items left.gear.servers.items left.work.servers.items) first
-    (subst (λ l. ServersServed (seen g.T.Link.state g.T.Link.opening) of.servers (column_of (length crew.radios.items) N.limit j) l left.gear.servers.items left.work.servers.items) m.servers
-    (subst (λ l. ServersServed (seen g.T.Link.state g.T.Link.opening) of.servers (column_of (length crew.radios.items) N.limit j) (map server_link crew.pollers.items) l left.work.servers.items) (sym f.servers)
-    (subst (λ l. ServersServed (seen g.T.Link.state g.T.Link.opening) of.servers (column_of (length crew.radios.items) N.limit j) (map server_link crew.pollers.items) (map server_link now.pollers.items) l) (sym f.poll_works) told))))
+    let informed = servers_served g.L.Source.state g.L.Source.opening g.T.Link.state g.T.Link.opening N.limit (length N.settings.sources) j crew.radios.items now.radios.items crew.pollers.items now.pollers.items crew.leap now.leap claims e.radios (sym now.radios.ok.0 ∙ e.counts.0 ∙ crew.radios.ok.0) e.pollers (sym now.pollers.ok.0 ∙ e.counts.1 ∙ crew.pollers.ok.0) e.leap all of.servers m.asked c.close.ensures.within in
+    subst (λ n. ServersServed (seen g.T.Link.state g.T.Link.opening) of.servers (column_of (length of.radios) n j) c.args.equipment.gear.servers.items collected.gear.servers.items collected.work.servers.items) (sym c.requires.limit.0)
+    (subst (λ n. ServersServed (seen g.T.Link.state g.T.Link.opening) of.servers (column_of n N.limit j) c.args.equipment.gear.servers.items collected.gear.servers.items collected.work.servers.items) first
+    (subst (λ l. ServersServed (seen g.T.Link.state g.T.Link.opening) of.servers (column_of (length crew.radios.items) N.limit j) l collected.gear.servers.items collected.work.servers.items) m.servers
+    (subst (λ l. ServersServed (seen g.T.Link.state g.T.Link.opening) of.servers (column_of (length crew.radios.items) N.limit j) (map server_link crew.pollers.items) l collected.work.servers.items) (sym f.servers)
+    (subst (λ l. ServersServed (seen g.T.Link.state g.T.Link.opening) of.servers (column_of (length crew.radios.items) N.limit j) (map server_link crew.pollers.items) (map server_link now.pollers.items) l) (sym f.poll_works) informed))))
 
 pub returns-clause-leap : goal.returns-clause-leap
 returns-clause-leap g c =
     let N = g.N.HubName in
-    let m = c.man_crew-crew.ensures.manned in
-    let crew = c.man_crew-crew.result in
+    let m = c.assign_crew-crew.ensures.assigned in
+    let crew = c.assign_crew-crew.result in
     let now = c.run_first.new.crew in
     let e = c.run_first.ensures in
-    let left = c.leave_feeds-responders.result.1 in
-    let f = c.leave_feeds-responders.ensures.feeds in
+    let collected = c.collect_feeds-responders.result.1 in
+    let f = c.collect_feeds-responders.ensures.feeds in
     let j = c.close.result.entries in
     let of = c.args.station.now in
-    let is = c.man_crew-crew.ensures.feeds ∙ c.in-Ok.ensures.passes.0 in
+    let is = c.assign_crew-crew.ensures.feeds ∙ c.in-Ok.ensures.passes.0 in
     let claims = ap (λ l. map (λ (f : Known). claim_of f.view) l) is ∙ c.requires.claims in
-    let feeds = c.tell_responders.ensures.same ∙ f.feeds in
+    let feeds = c.inform_responders.ensures.same ∙ f.feeds in
     let all = subst (All (λ (f : Known). IsTrueOf j (claim_of f.view))) feeds c.close.ensures.feeds in
     let start = of.top.start in
-    let one : vec_len c.args.kit.gear.logs ≡ length c.args.kit.gear.logs.items = c.args.kit.gear.logs.ok.0 in
-    let two : vec_len c.args.kit.gear.servers ≡ length c.args.kit.gear.servers.items = c.args.kit.gear.servers.ok.0 in
+    let one : vec_len c.args.equipment.gear.logs ≡ length c.args.equipment.gear.logs.items = c.args.equipment.gear.logs.ok.0 in
+    let two : vec_len c.args.equipment.gear.servers ≡ length c.args.equipment.gear.servers.items = c.args.equipment.gear.servers.ok.0 in
     let radios : length crew.radios.items ≡ length of.radios = sym (length-map crew.radios.items log_of) ∙ ap length m.logs ∙ sym one ∙ c.requires.gear.logs in
     let servers : length crew.pollers.items ≡ length of.servers = sym (length-map crew.pollers.items server_link) ∙ ap length m.servers ∙ sym two ∙ c.requires.gear.servers in
-    let told = leap_served g.L.Source.state g.L.Source.opening g.T.Link.state g.T.Link.opening N.limit (length N.settings.sources) j crew.radios.items now.radios.items crew.pollers.items now.pollers.items crew.leap now.leap claims e.radios (sym now.radios.ok.0 ∙ e.counts.0 ∙ crew.radios.ok.0) e.pollers (sym now.pollers.ok.0 ∙ e.counts.1 ∙ crew.pollers.ok.0) e.leap all start m.begins c.close.ensures.within in
+    let informed = leap_served g.L.Source.state g.L.Source.opening g.T.Link.state g.T.Link.opening N.limit (length N.settings.sources) j crew.radios.items now.radios.items crew.pollers.items now.pollers.items crew.leap now.leap claims e.radios (sym now.radios.ok.0 ∙ e.counts.0 ∙ crew.radios.ok.0) e.pollers (sym now.pollers.ok.0 ∙ e.counts.1 ∙ crew.pollers.ok.0) e.leap all start m.begins c.close.ensures.within in
     let first : length crew.radios.items + length crew.pollers.items ≡ length of.radios + length of.servers = ap (λ n. n + length crew.pollers.items) radios ∙ ap (λ n. length of.radios + n) servers in
-    subst (λ n. LeapServed (seen g.L.Source.state g.L.Source.opening) start (column_of (length of.radios + length of.servers) n j) c.args.kit.gear.leap left.gear.leap left.work.leap) (sym c.requires.limit.0)
-    (subst (λ n. LeapServed (seen g.L.Source.state g.L.Source.opening) start (column_of n N.limit j) c.args.kit.gear.leap left.gear.leap left.work.leap) first
-    (subst (λ o. LeapServed (seen g.L.Source.state g.L.Source.opening) start (column_of (length crew.radios.items + length crew.pollers.items) N.limit j) o left.gear.leap left.work.leap) m.file
-    (subst (λ o. LeapServed (seen g.L.Source.state g.L.Source.opening) start (column_of (length crew.radios.items + length crew.pollers.items) N.limit j) (option_map file_of crew.leap) o left.work.leap) (sym f.file)
-    (subst (λ o. LeapServed (seen g.L.Source.state g.L.Source.opening) start (column_of (length crew.radios.items + length crew.pollers.items) N.limit j) (option_map file_of crew.leap) (option_map file_of now.leap) o) (sym f.leap_work) told))))
+    subst (λ n. LeapServed (seen g.L.Source.state g.L.Source.opening) start (column_of (length of.radios + length of.servers) n j) c.args.equipment.gear.leap collected.gear.leap collected.work.leap) (sym c.requires.limit.0)
+    (subst (λ n. LeapServed (seen g.L.Source.state g.L.Source.opening) start (column_of n N.limit j) c.args.equipment.gear.leap collected.gear.leap collected.work.leap) first
+    (subst (λ o. LeapServed (seen g.L.Source.state g.L.Source.opening) start (column_of (length crew.radios.items + length crew.pollers.items) N.limit j) o collected.gear.leap collected.work.leap) m.file
+    (subst (λ o. LeapServed (seen g.L.Source.state g.L.Source.opening) start (column_of (length crew.radios.items + length crew.pollers.items) N.limit j) (option_map file_of crew.leap) o collected.work.leap) (sym f.file)
+    (subst (λ o. LeapServed (seen g.L.Source.state g.L.Source.opening) start (column_of (length crew.radios.items + length crew.pollers.items) N.limit j) (option_map file_of crew.leap) (option_map file_of now.leap) o) (sym f.leap_work) informed))))
 
 pub returns-clause-links : goal.returns-clause-links
 returns-clause-links g c =
     let N = g.N.HubName in
-    let m = c.man_crew-crew.ensures.manned in
-    let crew = c.man_crew-crew.result in
+    let m = c.assign_crew-crew.ensures.assigned in
+    let crew = c.assign_crew-crew.result in
     let now = c.run_first.new.crew in
     let e = c.run_first.ensures in
-    let left = c.leave_feeds-responders.result.1 in
-    let f = c.leave_feeds-responders.ensures.feeds in
+    let collected = c.collect_feeds-responders.result.1 in
+    let f = c.collect_feeds-responders.ensures.feeds in
     let j = c.close.result.entries in
     let of = c.args.station.now in
-    let is = c.man_crew-crew.ensures.feeds ∙ c.in-Ok.ensures.passes.0 in
+    let is = c.assign_crew-crew.ensures.feeds ∙ c.in-Ok.ensures.passes.0 in
     let claims = ap (λ l. map (λ (f : Known). claim_of f.view) l) is ∙ c.requires.claims in
-    let feeds = c.tell_responders.ensures.same ∙ f.feeds in
+    let feeds = c.inform_responders.ensures.same ∙ f.feeds in
     let all = subst (All (λ (f : Known). IsTrueOf j (claim_of f.view))) feeds c.close.ensures.feeds in
-    let lawful = subst (λ (s : SettingsFields). All (IsKept (length s.sources)) j) c.close.ensures.settings c.close.ensures.lawful in
+    let valid = subst (λ (s : SettingsFields). All (IsKept (length s.sources)) j) c.close.ensures.settings c.close.ensures.valid in
     let xs = crew.responders.items in
     let ys = now.responders.items in
-    let zs = c.tell_responders.new.told.items in
+    let zs = c.inform_responders.new.informed.items in
     let ws = c.run_second.new.jobs.items in
-    let same : length ys ≡ length xs = sym c.run_first.new.crew.responders.ok.0 ∙ c.run_first.ensures.counts.2 ∙ c.man_crew-crew.result.responders.ok.0 in
-    let again : length ws ≡ length zs = sym c.run_second.new.jobs.ok.0 ∙ c.run_second.ensures.count ∙ c.tell_responders.new.told.ok.0 in
+    let same : length ys ≡ length xs = sym c.run_first.new.crew.responders.ok.0 ∙ c.run_first.ensures.counts.2 ∙ c.assign_crew-crew.result.responders.ok.0 in
+    let again : length ws ≡ length zs = sym c.run_second.new.jobs.ok.0 ∙ c.run_second.ensures.count ∙ c.inform_responders.new.informed.ok.0 in
     let seen_by = passes_of now.radios.items now.pollers.items now.leap in
-    let told_to = subst (λ l. Pairs (WasTold l) ys zs) f.feeds (subst (λ v. Pairs (WasTold left.passes.feeds.items) v.items zs) c.leave_feeds-responders.ensures.responders c.tell_responders.ensures.told) in
-    let served = served_twice g.T.Link.state g.T.Link.opening c.args.orders.budget seen_by xs ys zs ws e.responders same told_to c.run_second.ensures.served in
-    let count : length ws ≡ length xs = again ∙ pairs_length (WasTold seen_by) ys zs told_to ∙ same in
-    let readers = c.leave_responders.ensures.readers ∙ ap (λ l. l ++ map serve_pass ws) c.leave_feeds-responders.ensures.room.no_readers in
-    let read = subst (All (λ (r : KnownReader). HasRead N.settings j r.view)) readers (subst (λ (s : SettingsFields). All (λ (r : KnownReader). HasRead s j r.view) c.leave_responders.new.readers.items) c.close.ensures.settings c.close.ensures.readers) in
-    let new = subst (All (IsNewReader N.table)) (sym (c.man_crew-crew.ensures.readers ∙ c.in-Ok.ensures.passes.1)) c.requires.readers in
-    let bound : (x : KnownReader) → HasSeenAll seen_by x → length j ≤ x.view.seen = λ x seen. seen_all g.L.Source.state g.L.Source.opening g.T.Link.state g.T.Link.opening N.limit (length N.settings.sources) j crew.radios.items now.radios.items crew.pollers.items now.pollers.items crew.leap now.leap claims e.radios (sym now.radios.ok.0 ∙ e.counts.0 ∙ crew.radios.ok.0) e.pollers (sym now.pollers.ok.0 ∙ e.counts.1 ∙ crew.pollers.ok.0) e.leap all lawful x.view.seen seen in
-    let told = links_served g.T.Link.state g.T.Link.opening of.keys (gate_of of) N.settings j c.args.orders.budget N.table seen_by xs ws served count new m.unserved m.keyed m.gated read bound in
-    let links = c.leave_responders.ensures.links ∙ ap (λ l. l ++ map link_of ws) c.leave_feeds-responders.ensures.room.no_links in
-    let works = c.leave_responders.ensures.works ∙ ap (λ l. l ++ map (λ j. j.work) ws) c.leave_feeds-responders.ensures.room.no_works in
+    let informed_to = subst (λ l. Pairs (WasInformed l) ys zs) f.feeds (subst (λ v. Pairs (WasInformed collected.passes.feeds.items) v.items zs) c.collect_feeds-responders.ensures.responders c.inform_responders.ensures.informed) in
+    let served = served_twice g.T.Link.state g.T.Link.opening c.args.orders.budget seen_by xs ys zs ws e.responders same informed_to c.run_second.ensures.served in
+    let count : length ws ≡ length xs = again ∙ pairs_length (WasInformed seen_by) ys zs informed_to ∙ same in
+    let readers = c.collect_responders.ensures.readers ∙ ap (λ l. l ++ map serve_pass ws) c.collect_feeds-responders.ensures.room.no_readers in
+    let read = subst (All (λ (r : KnownReader). HasRead N.settings j r.view)) readers (subst (λ (s : SettingsFields). All (λ (r : KnownReader). HasRead s j r.view) c.collect_responders.new.readers.items) c.close.ensures.settings c.close.ensures.readers) in
+    let new = subst (All (IsNewReader N.table)) (sym (c.assign_crew-crew.ensures.readers ∙ c.in-Ok.ensures.passes.1)) c.requires.readers in
+    let bound : (x : KnownReader) → HasSeenAll seen_by x → length j ≤ x.view.seen = λ x seen. seen_all g.L.Source.state g.L.Source.opening g.T.Link.state g.T.Link.opening N.limit (length N.settings.sources) j crew.radios.items now.radios.items crew.pollers.items now.pollers.items crew.leap now.leap claims e.radios (sym now.radios.ok.0 ∙ e.counts.0 ∙ crew.radios.ok.0) e.pollers (sym now.pollers.ok.0 ∙ e.counts.1 ∙ crew.pollers.ok.0) e.leap all valid x.view.seen seen in
+    let informed = links_served g.T.Link.state g.T.Link.opening of.keys (gate_of of) N.settings j c.args.orders.budget N.table seen_by xs ws served count new m.unserved m.keyed m.gated read bound in
+    let links = c.collect_responders.ensures.links ∙ ap (λ l. l ++ map link_of ws) c.collect_feeds-responders.ensures.room.no_links in
+    let works = c.collect_responders.ensures.works ∙ ap (λ l. l ++ map (λ j. j.work) ws) c.collect_feeds-responders.ensures.room.no_works in
     let service = record (service_of of j c.args.orders.budget) { settings = N.settings } in
-    subst (λ (s : SettingsFields). LinksServed (seen g.T.Link.state g.T.Link.opening) (record service { settings = s }) c.args.kit.gear.links.items c.leave_responders.new.links.items c.leave_responders.new.works.items) (sym c.requires.settings.1)
-    (subst (λ l. LinksServed (seen g.T.Link.state g.T.Link.opening) service l c.leave_responders.new.links.items c.leave_responders.new.works.items) m.links
-    (subst (λ l. LinksServed (seen g.T.Link.state g.T.Link.opening) service (map link_of xs) l c.leave_responders.new.works.items) (sym links)
-    (subst (λ l. LinksServed (seen g.T.Link.state g.T.Link.opening) service (map link_of xs) (map link_of ws) l) (sym works) told)))
+    subst (λ (s : SettingsFields). LinksServed (seen g.T.Link.state g.T.Link.opening) (record service { settings = s }) c.args.equipment.gear.links.items c.collect_responders.new.links.items c.collect_responders.new.works.items) (sym c.requires.settings.1)
+    (subst (λ l. LinksServed (seen g.T.Link.state g.T.Link.opening) service l c.collect_responders.new.links.items c.collect_responders.new.works.items) m.links
+    (subst (λ l. LinksServed (seen g.T.Link.state g.T.Link.opening) service (map link_of xs) l c.collect_responders.new.works.items) (sym links)
+    (subst (λ l. LinksServed (seen g.T.Link.state g.T.Link.opening) service (map link_of xs) (map link_of ws) l) (sym works) informed)))

@@ -7,9 +7,9 @@ returns-in-Ok-Ok-Ok-Ok-clause-room g c =
     let made = c.in-Ok-Ok-Ok-Ok in
     record {
       crew = made.ensures;
-      none_told = made.ensures'.items;
-      told = subst (λ n. c.args.counts.links ≤ n) (sym made.ensures'.exact) (le_refl c.args.counts.links);
-      left = made.ensures'';
+      none_informed = made.ensures'.items;
+      informed = subst (λ n. c.args.counts.links ≤ n) (sym made.ensures'.exact) (le_refl c.args.counts.links);
+      collected = made.ensures'';
       gates = made.ensures'''.count;
       alike = made.ensures'''.alike;
     }

@@ -1,7 +1,7 @@
 -- What the search leaves open of `station::open_gates`.
 use Rattle.std.proofs.Common.{rules, ◌≡◌}
 use Rattle.kiss_gate.specs.Gates.{Gate}
-use Rattle.station_config.specs.Station.{gate_of}
+use Rattle.station_values.specs.Station.{gate_of}
 use Rattle.crew_work.proofs.ListLaws.{all_pushed}
 use Rattle.station_crew.proofs.station.open_gates.Goals as goal
 

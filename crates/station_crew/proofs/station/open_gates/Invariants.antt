@@ -1,7 +1,7 @@
 -- The loop of `station::open_gates`.
 use Rattle.std.proofs.Common.{◌≡◌, ◌≤◌}
 use Rattle.std.specs.Prelude.{All, vec_capacity, vec_len}
-use Rattle.station_config.specs.Station.{gate_of}
+use Rattle.station_values.specs.Station.{gate_of}
 use Rattle.station_crew.proofs.station.open_gates.Given as goal
 
 abbrev pub invariant-loop : goal.invariant-loop

@@ -1,5 +1,5 @@
 -- What the hub's name stands for in `station::serve_station`.
-use Rattle.station_config.specs.Station.{settings_of}
+use Rattle.station_values.specs.Station.{settings_of}
 use Rattle.station_crew.proofs.station.serve_station.Given as goal
 
 abbrev pub ghosts-serve_named : goal.ghosts-serve_named

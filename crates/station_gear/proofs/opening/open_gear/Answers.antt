@@ -3,8 +3,8 @@ use Rattle.std.proofs.Common.{◌≡◌, ◌∙◌, ◌+◌, length, map, sym, a
 use Rattle.std.proofs.lemmas.List.{length-map}
 use Rattle.std.specs.Prelude.{vec_len}
 use Rattle.std.specs.Option.{option_to_list}
-use Rattle.feed_link.specs.Openings.State.{OfLog, OfLink}
-use Rattle.feed_link.specs.Openings.Wanted.{LinkAt}
+use Rattle.outside_traits.specs.Openings.State.{OfLog, OfLink}
+use Rattle.outside_traits.specs.Openings.Wanted.{LinkAt}
 use Rattle.station_gear.proofs.HoldingLaws.{stops_within}
 use Rattle.station_gear.proofs.PhaseLaws.{all_phases, leap_fails, link_fails, log_fails, server_fails}
 use Rattle.station_gear.proofs.opening.open_gear.Goals as goal

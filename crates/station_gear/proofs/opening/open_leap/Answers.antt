@@ -1,9 +1,9 @@
 -- What the search leaves open of `opening::open_leap`.
 use Rattle.std.proofs.Common.{[], ◌∷◌, List, map, refl, ap, subst}
 use Rattle.std.specs.Option.{option_to_list}
-use Rattle.feed_link.specs.Openings.{Wanted}
-use Rattle.feed_link.specs.Openings.Wanted.{LogOf}
-use Rattle.feed_link.specs.Openings.State.{OfLog}
+use Rattle.outside_traits.specs.Openings.{Wanted}
+use Rattle.outside_traits.specs.Openings.Wanted.{LogOf}
+use Rattle.outside_traits.specs.Openings.State.{OfLog}
 use Rattle.station_gear.specs.Opens.{OpensAll, StopsIn}
 use Rattle.station_gear.proofs.HoldingLaws.{none_held, one_held, one_failed}
 use Rattle.station_gear.proofs.opening.open_leap.Goals as goal

@@ -3,8 +3,8 @@ use Rattle.std.proofs.Common.{rules, ◌≡◌, ◌∙◌, ◌∷◌, ◌<◌, �
 use Rattle.std.proofs.lemmas.List.{map-append, length-map}
 use Rattle.std.proofs.lemmas.Option.{slice_get-map, slice_get_within}
 use Rattle.std.specs.Prelude.{slice_get, option_map, vec_len}
-use Rattle.feed_link.specs.Openings.Wanted.{LinkAt}
-use Rattle.feed_link.specs.Openings.State.{OfLink}
+use Rattle.outside_traits.specs.Openings.Wanted.{LinkAt}
+use Rattle.outside_traits.specs.Openings.State.{OfLink}
 use Rattle.station_gear.specs.Gears.{links_needed, link_states}
 use Rattle.station_gear.specs.Opens.{HoldsOpenings}
 use Rattle.station_gear.proofs.HoldingLaws.{none_held, one_held, one_failed, all_held, none_past}

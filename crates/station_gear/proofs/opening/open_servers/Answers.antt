@@ -2,8 +2,8 @@
 use Rattle.std.proofs.Common.{rules, ◌≡◌, ◌∙◌, ◌∷◌, [], None, Some, length, map, sym, ap, subst, refl, arith}
 use Rattle.std.proofs.lemmas.List.{map-append, length-map}
 use Rattle.std.specs.Prelude.{slice_get, vec_len}
-use Rattle.feed_link.specs.Openings.Wanted.{LinkAt}
-use Rattle.feed_link.specs.Openings.State.{OfLink}
+use Rattle.outside_traits.specs.Openings.Wanted.{LinkAt}
+use Rattle.outside_traits.specs.Openings.State.{OfLink}
 use Rattle.station_gear.specs.Gears.{servers_needed, link_states}
 use Rattle.station_gear.specs.Opens.{HoldsOpenings}
 use Rattle.station_gear.proofs.HoldingLaws.{none_held, one_held, one_failed, same_at}

@@ -2,9 +2,9 @@
 use Rattle.std.proofs.Common.{◌∙◌, ◌++◌, map, sym}
 use Rattle.std.specs.Option.{option_to_list}
 use Rattle.std.proofs.lemmas.List.{length-map}
-use Rattle.feed_link.specs.Openings.State.{OfLog, OfLink}
+use Rattle.outside_traits.specs.Openings.State.{OfLog, OfLink}
 use Rattle.station_gear.specs.Gears.{log_states, link_states}
-use Rattle.station_gear.proofs.BackLaws.{AreOut-front, AreOut-rest, GivesAllBack-append}
+use Rattle.station_gear.proofs.BackLaws.{AreOut-prefix, AreOut-rest, GivesAllBack-append}
 use Rattle.station_gear.proofs.returning.give_back_gear.Goals as goal
 
 pub give_back_logs-requires-after_bounds : goal.give_back_logs-requires-after_bounds
@@ -13,7 +13,7 @@ give_back_logs-requires-after_bounds g c κs within =
     let leap = map g.O.Log.Source.opening (option_to_list c.args.gear.leap) in
     let servers = map g.O.Net.Link.opening c.args.gear.servers.items in
     let links = map g.O.Net.Link.opening c.args.gear.links.items in
-    AreOut-front (g.O.Outside.state c.args.outside.now).openings logs (leap ++ (servers ++ links)) c.requires
+    AreOut-prefix (g.O.Outside.state c.args.outside.now).openings logs (leap ++ (servers ++ links)) c.requires
 
 pub give_back_leap-requires-after_bounds : goal.give_back_leap-requires-after_bounds
 give_back_leap-requires-after_bounds g c κs within =
@@ -23,7 +23,7 @@ give_back_leap-requires-after_bounds g c κs within =
     let links = map g.O.Net.Link.opening c.args.gear.links.items in
     let size = length-map c.args.gear.logs.items (λ x. OfLog (g.O.Log.Source.state x)) ∙ sym (length-map c.args.gear.logs.items g.O.Log.Source.opening) in
     let mid = g.O.Outside.state c.give_back_logs.new.outside in
-    AreOut-front mid.openings leap (servers ++ links)
+    AreOut-prefix mid.openings leap (servers ++ links)
     (AreOut-rest (g.O.Outside.state c.args.outside.now) mid logs (leap ++ (servers ++ links)) (log_states g.O.Log.Source.state c.args.gear.logs.items) c.requires size c.give_back_logs.ensures.back)
 
 pub give_back_links-requires-after_bounds : goal.give_back_links-requires-after_bounds
@@ -36,7 +36,7 @@ give_back_links-requires-after_bounds g c κs within =
     let next = length-map (option_to_list c.args.gear.leap) (λ x. OfLog (g.O.Log.Source.state x)) ∙ sym (length-map (option_to_list c.args.gear.leap) g.O.Log.Source.opening) in
     let mid = g.O.Outside.state c.give_back_logs.new.outside in
     let listed = g.O.Outside.state c.give_back_leap.new.outside in
-    AreOut-front listed.openings servers links
+    AreOut-prefix listed.openings servers links
     (AreOut-rest mid listed leap (servers ++ links) (log_states g.O.Log.Source.state (option_to_list c.args.gear.leap))
     (AreOut-rest (g.O.Outside.state c.args.outside.now) mid logs (leap ++ (servers ++ links)) (log_states g.O.Log.Source.state c.args.gear.logs.items) c.requires size c.give_back_logs.ensures.back)
     next c.give_back_leap.ensures.back)

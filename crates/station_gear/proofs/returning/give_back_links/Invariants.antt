@@ -1,8 +1,8 @@
 -- What stays true in the loop of `returning::give_back_links`.
 use Rattle.std.proofs.Common.{◌≡◌, length, map}
 use Rattle.std.specs.Vec.Iter.{into_iter_items, into_iter_len}
-use Rattle.feed_link.specs.Openings.{OutsideState}
-use Rattle.feed_link.specs.ManyOut.{AreOut, GivesAllBack}
+use Rattle.outside_traits.specs.Openings.{OutsideState}
+use Rattle.outside_traits.specs.ManyOut.{AreOut, GivesAllBack}
 use Rattle.station_gear.specs.Gears.{link_states}
 use Rattle.station_gear.proofs.returning.give_back_links.Given as goal
 

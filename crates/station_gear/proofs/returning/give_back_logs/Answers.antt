@@ -2,8 +2,8 @@
 use Rattle.std.proofs.Common.{rules, ◌≡◌, ◌∙◌, [], map, sym, subst}
 use Rattle.std.proofs.lemmas.List.{nil_from_length}
 use Rattle.std.specs.Vec.Iter.{into_iter_items}
-use Rattle.feed_link.specs.ManyOut.{AreOut, GivesAllBack}
-use Rattle.feed_link.proofs.ManyOutLaws.{AreOut-back, GivesAllBack-none, GivesAllBack-step}
+use Rattle.outside_traits.specs.ManyOut.{AreOut, GivesAllBack}
+use Rattle.outside_traits.proofs.ManyOutLaws.{AreOut-back, GivesAllBack-none, GivesAllBack-step}
 use Rattle.station_gear.specs.Gears.{log_states}
 use Rattle.station_gear.proofs.returning.give_back_logs.Goals as goal
 

@@ -2,7 +2,7 @@
 use Rattle.std.proofs.Common.{◌≡◌, ◌∙◌, ℕ, true, false, Some, ap, arith, codes, map, nat_lt, sym}
 use Rattle.std.proofs.lemmas.Bool.Decides.{nat_tests}
 use Rattle.station_reader.specs.Faults.{Count, plan_radios}
-use Rattle.station_config.specs.KeptStation.{radio_kept}
+use Rattle.station_values.specs.KeptStation.{radio_kept}
 use Rattle.station_reader.proofs.Firsts.{find-here, find-later}
 use Rattle.station_reader.proofs.counts.plan_excess.Goals as goal
 

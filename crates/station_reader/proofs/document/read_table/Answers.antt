@@ -3,7 +3,7 @@ use Rattle.std.proofs.Common.{◌∙◌, sym, ap, filter, find, map, nat_lt, Boo
 use Rattle.toml.specs.View.{table_view}
 use Rattle.station_reader.specs.Faults.{Count, counts_of, excess_of, too_many}
 use Rattle.station_reader.specs.Finding.{count_seen, path_text}
-use Rattle.station_config.specs.Station.{AreWithin, IsStation}
+use Rattle.station_values.specs.Station.{AreWithin, IsStation}
 use Rattle.station_reader.specs.Forms.{tables_at}
 use Rattle.station_reader.specs.Rows.{key_row}
 use Rattle.station_reader.specs.Values.{station_of}

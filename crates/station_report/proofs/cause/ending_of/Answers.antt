@@ -6,10 +6,10 @@ use Rattle.feed_workers.specs.declared.work.LogWork.{LogWork}
 use Rattle.feed_workers.specs.declared.work.PollWork.{PollWork}
 use Rattle.crew_work.specs.declared.work.LinkWork.{LinkWork}
 use Rattle.station_report.specs.Crewing.{any_full, causes_left, end_of}
-use Rattle.station_report.specs.Headline.{IsTold, each_cause, full_cause, link_cause, log_cause, poll_cause}
+use Rattle.station_report.specs.Headline.{IsReported, each_cause, full_cause, link_cause, log_cause, poll_cause}
 use Rattle.file_commands.specs.declared.ending.Ending.{Ending}
 use Rattle.file_commands.specs.declared.ending.Ending.TheVariants.{Whole}
-use Rattle.station_report.proofs.CauseLaws.{told_or_whole}
+use Rattle.station_report.proofs.CauseLaws.{reported_or_whole}
 use Rattle.station_report.proofs.cause.ending_of.Goals as goal
 
 five : (a b c d e v w x y z : List Ending) → a ≡ v → b ≡ w → c ≡ x → d ≡ y → e ≡ z → (((a ++ b) ++ c) ++ d) ++ e ≡ v ++ (w ++ (x ++ (y ++ z)))
@@ -26,13 +26,13 @@ returns c =
     let three = c.with_leap-found.ensures _ two in
     let four = c.with_works-found-3.ensures _ three in
     let all = c.with_next.ensures _ four in
-    let told = told_or_whole _ c.with_next.result all in
+    let reported = reported_or_whole _ c.with_next.result all in
     let radios = ap (each_cause (λ feed (w : LogWork). log_cause feed w.end) 0) c.as_slice.ensures.value in
     let first : c.radios-radios.result ≡ length done.work.radios.items = c.radios-radios.ensures.value ∙ sym c.requires.of_radios in
     let servers = ap (λ n. each_cause (λ feed (w : PollWork). poll_cause feed w.end) n c.as_slice-2.result.now) first ∙ ap (each_cause (λ feed (w : PollWork). poll_cause feed w.end) (length done.work.radios.items)) c.as_slice-2.ensures.value in
-    let behind : c.leap_feed.result ≡ length done.work.radios.items + length done.work.servers.items = c.leap_feed.ensures ∙ ap (λ n. n + length c.args.station.now.servers) (sym c.requires.of_radios) ∙ ap (λ n. length done.work.radios.items + n) (sym c.requires.of_servers) in
-    let leap = ap (λ n. each_cause (λ feed (w : LogWork). log_cause feed w.end) n (option_to_list done.work.leap)) behind in
+    let later : c.leap_feed.result ≡ length done.work.radios.items + length done.work.servers.items = c.leap_feed.ensures ∙ ap (λ n. n + length c.args.station.now.servers) (sym c.requires.of_radios) ∙ ap (λ n. length done.work.radios.items + n) (sym c.requires.of_servers) in
+    let leap = ap (λ n. each_cause (λ feed (w : LogWork). log_cause feed w.end) n (option_to_list done.work.leap)) later in
     let links = ap (each_cause (λ number (w : LinkWork). link_cause number (end_of w)) 0) c.as_slice-3.ensures.value in
     let lost = c.is_full-full.ensures ∙ ap (λ l. any_full l c.as_slice-5.result.now done.work.leap) c.as_slice-4.ensures.value ∙ ap (λ l. any_full done.work.radios.items l done.work.leap) c.as_slice-5.ensures.value in
     let full = ap option_to_list c.full_cause.ensures ∙ ap (λ b. option_to_list (full_cause limit b)) lost in
-    subst (λ e. IsTold (causes_left limit done) e) (sym c.unwrap_or.ensures) (subst (λ l. IsTold l (unwrap_or c.with_next.result Whole)) (five _ _ _ _ _ _ _ _ _ _ radios servers leap links full) told)
+    subst (λ e. IsReported (causes_left limit done) e) (sym c.unwrap_or.ensures) (subst (λ l. IsReported l (unwrap_or c.with_next.result Whole)) (five _ _ _ _ _ _ _ _ _ _ radios servers leap links full) reported)

@@ -1,6 +1,6 @@
 -- What the search leaves open of `serve::cause::with_works`.
 use Rattle.std.proofs.Common.{◌≡◌, ◌<◌, ap, arith, length, rules, ◌∙◌}
-use Rattle.station_report.proofs.EachLaws.{looked_all, looked_more, none_behind}
+use Rattle.station_report.proofs.EachLaws.{looked_all, looked_more, none_later}
 use Rattle.station_report.proofs.cause.with_works.Goals as goal
 
 pub loop-work-preserved : goal.loop-work-preserved
@@ -14,4 +14,4 @@ loop-work-preserved g c =
 pub returns : goal.returns
 returns g c = λ all h.
     let end : c.loop-work.work-index ≡ length c.args.works.now = search rules in
-    looked_all g.W.Work.cause all _ _ _ _ (none_behind c.args.works.now c.loop-work.work-index end) (c.loop-work.invariant.1 all h)
+    looked_all g.W.Work.cause all _ _ _ _ (none_later c.args.works.now c.loop-work.work-index end) (c.loop-work.invariant.1 all h)

@@ -8,14 +8,14 @@ use Rattle.file_commands.specs.Reports.{status_in}
 use Rattle.file_commands.specs.Writing.{Answers}
 use Rattle.file_commands.specs.declared.ending.status.Status.TheVariants.{WriteFault}
 use Rattle.file_commands.proofs.ReportLaws.{reports_more, reports_none}
-use Rattle.file_commands.proofs.WritingLaws.{answers_front, answers_more}
+use Rattle.file_commands.proofs.WritingLaws.{answers_prefix, answers_more}
 use Rattle.station_report.proofs.drill_text.finish_drilled.Goals as goal
 
 pub returns-in-Ok-clause-finishes : goal.returns-in-Ok-clause-finishes
 returns-in-Ok-clause-finishes g c =
     let done = c.args.done.now in
     let due = c.ending_of-ending.result in
-    let page = subst (λ (p : PageFields). Answers (status_of due) (status_in c.finish_page.result) (g.K.Sink.state c.tell_feeds.new.out) (g.K.Sink.state c.finish_page.new.out) (page_text p ++ status_line due)) c.page.ensures c.finish_page.ensures.answers in
+    let page = subst (λ (p : PageFields). Answers (status_of due) (status_in c.finish_page.result) (g.K.Sink.state c.write_feeds.new.out) (g.K.Sink.state c.finish_page.new.out) (page_text p ++ status_line due)) c.page.ensures c.finish_page.ensures.answers in
     record {
       due = due;
       cause = c.ending_of-ending.ensures;
@@ -31,9 +31,9 @@ returns-in-Err-clause-finishes g c =
     record {
       due = due;
       cause = c.ending_of-ending.ensures;
-      written = subst (λ t. Answers (status_of due) WriteFault (g.K.Sink.state c.args.out.now) (g.K.Sink.state c.tell_feeds.new.out) t)
+      written = subst (λ t. Answers (status_of due) WriteFault (g.K.Sink.state c.args.out.now) (g.K.Sink.state c.write_feeds.new.out) t)
           (sym (append_assoc (feed_lines done.journal.entries) _ (status_line due)))
-          (answers_front (status_of due) _ _ _ _ c.in-Err.ensures.err);
+          (answers_prefix (status_of due) _ _ _ _ c.in-Err.ensures.err);
     }
 
 pub returns-in-Ok-clause-reports : goal.returns-in-Ok-clause-reports

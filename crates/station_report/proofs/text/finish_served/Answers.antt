@@ -10,7 +10,7 @@ use Rattle.file_commands.specs.Reports.{status_in}
 use Rattle.file_commands.specs.Writing.{Answers}
 use Rattle.file_commands.specs.declared.ending.status.Status.TheVariants.{WriteFault}
 use Rattle.file_commands.proofs.ReportLaws.{reports_more, reports_none}
-use Rattle.file_commands.proofs.WritingLaws.{answers_front, answers_more}
+use Rattle.file_commands.proofs.WritingLaws.{answers_prefix, answers_more}
 use Rattle.station_report.proofs.text.finish_served.Goals as goal
 
 regroup : (j l p s : List ℕ) → (j ++ l) ++ (p ++ s) ≡ (j ++ (l ++ p)) ++ s
@@ -38,7 +38,7 @@ returns-in-Err-clause-finishes g c =
       cause = c.ending_of-ending.ensures;
       written = subst (λ t. Answers (status_of due) WriteFault (g.K.Sink.state c.args.out.now) (g.K.Sink.state c.write_lines.new.out) t)
           (regroup (journal_text done.journal.settings done.journal.entries) (each_text line_of_work 0 done.work.links.items) _ (status_line due))
-          (answers_front (status_of due) _ _ _ _ c.in-Err.ensures.err);
+          (answers_prefix (status_of due) _ _ _ _ c.in-Err.ensures.err);
     }
 
 pub returns-in-Ok-clause-reports : goal.returns-in-Ok-clause-reports

@@ -2,17 +2,17 @@
 use Rattle.std.proofs.Common.{◌≡◌, ℕ, ◌+◌, ◌<◌, List, arith, drop, length, rules, subst, suc}
 use Rattle.station_report.specs.Crewing.{line_of_work}
 use Rattle.station_report.specs.Headline.{each_text}
-use Rattle.sink_text.specs.Writing.{WritesAll, WritesFront}
+use Rattle.sink_text.specs.Writing.{WritesAll, WritesPrefix}
 use Rattle.sink_text.proofs.WritingLaws.{on_err}
-use Rattle.station_report.proofs.EachLaws.{HasWritten, text_split, written_front, written_more}
+use Rattle.station_report.proofs.EachLaws.{HasWritten, text_split, written_prefix, written_more}
 use Rattle.station_report.proofs.text.write_links.Goals as goal
 
 pub returns-in_err-write_all-clause-err : goal.returns-in_err-write_all-clause-err
 returns-in_err-write_all-clause-err g c =
     let i = c.loop-number.number in
     let lt : i < length c.args.works.now = search rules in
-    on_err c.from_residual.result (written_front _ _ _ _ _ _ _ (text_split line_of_work i c.args.works.now i _ lt) c.loop-number.invariant
-    (subst (λ (t : List ℕ). WritesFront (g.K.Sink.state c.loop-number.out) (g.K.Sink.state c.write_all.new.out) t) c.write_link_line-length.ensures.text c.in_err-write_all.ensures.err))
+    on_err c.from_residual.result (written_prefix _ _ _ _ _ _ _ (text_split line_of_work i c.args.works.now i _ lt) c.loop-number.invariant
+    (subst (λ (t : List ℕ). WritesPrefix (g.K.Sink.state c.loop-number.out) (g.K.Sink.state c.write_all.new.out) t) c.write_link_line-length.ensures.text c.in_err-write_all.ensures.err))
 
 pub loop-number-preserved : goal.loop-number-preserved
 loop-number-preserved g c =

@@ -7,4 +7,4 @@ pub is_fit-requires-clause-moment : goal.is_fit-requires-clause-moment
 is_fit-requires-clause-moment c = newest-by c.args.cut c.args.now c.args.feed.now c.in_ok-figures.figures c.requires (sym c.in_ok-figures.was ∙ c.ready.ensures.value c.args.feed.now.filter c.requires.last)
 
 pub returns-then-is_fit-clause-fit : goal.returns-then-is_fit-clause-fit
-returns-then-is_fit-clause-fit c = fit-by c.args.cut c.args.now _ c.args.feed.now c.ready.result c.requires c.in_ok-figures.was (c.ready.ensures.value c.args.feed.now.filter c.requires.last) c.ready.ensures.timely c.ready.ensures.jitter (c.ready.ensures.measured c.args.feed.now.filter c.requires.last c.requires.lawful) (sym c.if-is_fit.true ∙ c.is_fit.ensures)
+returns-then-is_fit-clause-fit c = fit-by c.args.cut c.args.now _ c.args.feed.now c.ready.result c.requires c.in_ok-figures.was (c.ready.ensures.value c.args.feed.now.filter c.requires.last) c.ready.ensures.timely c.ready.ensures.jitter (c.ready.ensures.measured c.args.feed.now.filter c.requires.last c.requires.valid) (sym c.if-is_fit.true ∙ c.is_fit.ensures)

@@ -11,9 +11,9 @@ use Rattle.system_fold.proofs.selecting.left_of.Goals as goal
 pub loop-survivor-preserved : goal.loop-survivor-preserved
 loop-survivor-preserved c =
     let fit = c.args.fit.now in
-    let front = sources_at fit (take c.loop-survivor.survivor-index c.args.survivors.now) in
-    let more = ap (λ (o : Option Source). front ++ cons_option o []) c.source_of-source.ensures ∙ sym (sources-more fit c.args.survivors.now c.loop-survivor.survivor-index c.survivor-item.result c.loop-survivor-test.true c.survivor-item.is) in
+    let prefix = sources_at fit (take c.loop-survivor.survivor-index c.args.survivors.now) in
+    let more = ap (λ (o : Option Source). prefix ++ cons_option o []) c.source_of-source.ensures ∙ sym (sources-more fit c.args.survivors.now c.loop-survivor.survivor-index c.survivor-item.result c.loop-survivor-test.true c.survivor-item.is) in
     record {
-      peer = c.first_of.ensures front c.loop-survivor.invariant.peer ∙ ap (λ (xs : List Source). slice_get xs 0) more;
-      fresh = c.fresher.ensures front c.loop-survivor.invariant.fresh ∙ ap fresh_of more;
+      peer = c.first_of.ensures prefix c.loop-survivor.invariant.peer ∙ ap (λ (xs : List Source). slice_get xs 0) more;
+      fresh = c.fresher.ensures prefix c.loop-survivor.invariant.fresh ∙ ap fresh_of more;
     }

@@ -15,9 +15,9 @@ returns-clause-text c =
     let bit = subst (λ (n : ℕ). Adds c.number.new.self c.number-2.new.self (32 ∷ decimal n)) c.from.ensures c.number-2.ensures.text in
     let same : to_z w32 (of_z w32 c.p.inside.rate) ≡ c.p.inside.rate = let least = c.p.invariant.rate.least in let most = c.p.invariant.rate.most in omega (arith, ints) in
     let rate = subst (λ (z : ℤ). Adds c.number-7.new.self c.rate.new.self (32 ∷ signed_decimal z)) same c.rate.ensures.text in
-    let behind = adds_then c.number-4.ensures.text (adds_then c.number-5.ensures.text (adds_then c.number-6.ensures.text (adds_then c.stamp.ensures.text (adds_then c.number-7.ensures.text (adds_last rate))))) in
+    let later = adds_then c.number-4.ensures.text (adds_then c.number-5.ensures.text (adds_then c.number-6.ensures.text (adds_then c.stamp.ensures.text (adds_then c.number-7.ensures.text (adds_last rate))))) in
     subst (λ (p : PageFields). AddsFields c.args.text.now c.rate.new.self (page_fields p)) c.p.view_is
-    (adds_then c.number.ensures.text (adds_then bit (adds_then c.number-3.ensures.text (adds_then c.address.ensures.text (adds_then c.span.ensures.text (adds_then c.moment.ensures.text behind))))))
+    (adds_then c.number.ensures.text (adds_then bit (adds_then c.number-3.ensures.text (adds_then c.address.ensures.text (adds_then c.span.ensures.text (adds_then c.moment.ensures.text later))))))
 
 pub returns-clause-short : goal.returns-clause-short
 returns-clause-short c =

@@ -1,7 +1,7 @@
 use Rattle.std.proofs.Common.{◌≡◌, List, [], rules, sym, ◌∙◌, subst}
 use Rattle.std.specs.Prelude.{All}
 use Rattle.std.proofs.lemmas.List.Elements.{All-push, All-nil}
-use Rattle.verdict_journal.proofs.Downs.{all_front}
+use Rattle.verdict_journal.proofs.Downs.{all_prefix}
 use Rattle.journal_entry.specs.declared.entry.Entry.{Entry}
 use Rattle.page_cell.specs.Passes.{Known, claim_of}
 use Rattle.page_cell.specs.Claims.{IsTrueOf}
@@ -19,7 +19,7 @@ loop-f-preserved c =
       table = e.cell ∙ i.table;
       key = e.settings ∙ i.key;
       list = e.list ∙ i.list;
-      own = all_front T c.loop-f.feeds.items c.pop.new.self.items c.in-Some.f items i.own;
+      own = all_prefix T c.loop-f.feeds.items c.pop.new.self.items c.in-Some.f items i.own;
       rest = (λ (h : All Q c.pop.new.self.items). i.rest (subst (All Q) (sym items) (All-push Q c.pop.new.self.items c.in-Some.f h now)));
     }
 

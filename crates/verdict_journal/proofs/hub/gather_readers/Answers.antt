@@ -1,7 +1,7 @@
 use Rattle.std.proofs.Common.{◌≡◌, List, sym, ◌∙◌, subst}
 use Rattle.std.specs.Prelude.{All}
 use Rattle.std.proofs.lemmas.List.Elements.{All-push}
-use Rattle.verdict_journal.proofs.Downs.{all_front}
+use Rattle.verdict_journal.proofs.Downs.{all_prefix}
 use Rattle.journal_entry.specs.declared.entry.Entry.{Entry}
 use Rattle.system_fold.specs.Settings.{SettingsFields}
 use Rattle.page_cell.specs.Passes.{KnownReader, key_of}
@@ -21,6 +21,6 @@ loop-r-preserved c =
       table = e.cell ∙ i.table;
       key = e.settings ∙ i.key;
       list = e.list ∙ i.list;
-      own = all_front T c.loop-r.readers.items c.pop.new.self.items c.in-Some.r items i.own;
+      own = all_prefix T c.loop-r.readers.items c.pop.new.self.items c.in-Some.r items i.own;
       rest = (λ (h : All Q c.pop.new.self.items). i.rest (subst (All Q) (sym items) (All-push Q c.pop.new.self.items c.in-Some.r h now)));
     }

@@ -4,8 +4,8 @@ use Rattle.system_fold.proofs.StandingLaws.{feeds-length}
 use Rattle.system_fold.specs.declared.feed.Feed.{Feed}
 use Rattle.worker_tests.proofs.minutes.are_of.Goals as goal
 
-pub step-requires-clause-lawful : goal.step-requires-clause-lawful
-step-requires-clause-lawful c =
+pub step-requires-clause-valid : goal.step-requires-clause-valid
+step-requires-clause-valid c =
     let i = c.loop-number.invariant in
     let feeds = ap (λ (fs : List Feed). length fs) i.stands.feeds ∙ feeds-length c.args.settings.now i.list in
     let e = c.in-Some-minute.ensures in

@@ -2,5 +2,5 @@
 use Rattle.std.proofs.Common.{rules, arith}
 use Rattle.worker_tests.proofs.shared.settings_of.Goals as goal
 
-pub returns-clause-lawful : goal.returns-clause-lawful
-returns-clause-lawful c = record { milliseconds = 1000; least = omega arith; most = omega arith; bound = search rules }
+pub returns-clause-valid : goal.returns-clause-valid
+returns-clause-valid c = record { milliseconds = 1000; least = omega arith; most = omega arith; bound = search rules }

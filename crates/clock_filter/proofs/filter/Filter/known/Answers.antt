@@ -10,4 +10,4 @@ pub returns-then-cut-self-clause-timely : goal.returns-then-cut-self-clause-time
 returns-then-cut-self-clause-timely c = subst (λ (o : Option Figures). IfSome o (IsTimely c.args.cut)) (sym c.as_ref.ensures.value) (rw (c.if-cut-self.true) (known_timely c.self.inside.cut _ c.self.inside.known c.self.invariant.0))
 
 pub returns-then-cut-self-clause-measured : goal.returns-then-cut-self-clause-measured
-returns-then-cut-self-clause-measured c = λ samples stands lawful. subst (λ (o : Option Figures). IfSome o IsMeasured) (sym c.as_ref.ensures.value) (known_measured c.self.inside.cut _ samples c.self.inside.known c.self.invariant.0 (c.self.view_is ∙ stands.last) lawful)
+returns-then-cut-self-clause-measured c = λ samples stands valid. subst (λ (o : Option Figures). IfSome o IsMeasured) (sym c.as_ref.ensures.value) (known_measured c.self.inside.cut _ samples c.self.inside.known c.self.invariant.0 (c.self.view_is ∙ stands.last) valid)

@@ -1,6 +1,6 @@
 -- What the search leaves open of `reading::taking::read_lines`.
 use Rattle.std.proofs.Common.{rules, [], refl}
-use Rattle.feed_link.proofs.ToldLaws.{Adds-none}
+use Rattle.outside_traits.proofs.StateLaws.{Adds-none}
 use Rattle.file_commands.specs.Taking.{EndsTaking, flow_of}
 use Rattle.file_commands.proofs.TakingLaws.{of_equals}
 use Rattle.file_commands.proofs.reading.taking.read_lines.Goals as goal

@@ -2,7 +2,7 @@
 use Rattle.std.proofs.Common.{ap, not, ◌∙◌, ◌||◌}
 use Rattle.frame_rules.specs.Fields.{has_a, has_b}
 use Rattle.tick_units.specs.Marks.{is_long}
-use Rattle.frame_rules.proofs.AddingLaws.{behind_full, behind_kept, count_full, count_kept, last_added, spacing_added, width_added, word_full, word_kept}
+use Rattle.frame_rules.proofs.AddingLaws.{after_full, after_kept, count_full, count_kept, last_added, spacing_added, width_added, word_full, word_kept}
 use Rattle.frame_rules.proofs.frame.Frame.add.Goals as goal
 
 pub returns-then-self-lt-KEPT_PLACES : goal.returns-then-self-lt-KEPT_PLACES
@@ -16,7 +16,7 @@ returns-then-self-lt-KEPT_PLACES g c = λ marks h.
       bits_a = word_kept frame marks mark h lt has_a _ _ _ h.bits_a c.with_bit-self.ensures c.is_in.ensures;
       bits_b = word_kept frame marks mark h lt has_b _ _ _ h.bits_b c.with_bit-self-then-self-lt-KEPT_PLACES.ensures c.is_in-then-self-lt-KEPT_PLACES.ensures;
       longs = word_kept frame marks mark h lt is_long _ _ _ h.longs c.with_bit-self-then-self-lt-KEPT_PLACES-2.ensures c.is_long-long.ensures;
-      long_behind = behind_kept frame marks mark h lt;
+      long_after = after_kept frame marks mark h lt;
       spacing = spacing_added frame marks mark h _ _ _ (c.last.ensures marks h) (ap not c.is_near-far.ensures) c.raise.ensures;
       width = width_added frame marks mark h _ _ c.is_odd.ensures c.raise-2.ensures;
       last = last_added _ marks mark count;
@@ -33,7 +33,7 @@ returns-else-self-lt-KEPT_PLACES g c = λ marks h.
       bits_a = word_full frame marks mark h le has_a _ h.bits_a;
       bits_b = word_full frame marks mark h le has_b _ h.bits_b;
       longs = word_full frame marks mark h le is_long _ h.longs;
-      long_behind = behind_full frame marks mark h le _ (c.raise-else-self-lt-KEPT_PLACES.ensures ∙ ap (λ b. frame.long_behind || b) c.is_long-long.ensures);
+      long_after = after_full frame marks mark h le _ (c.raise-else-self-lt-KEPT_PLACES.ensures ∙ ap (λ b. frame.long_after || b) c.is_long-long.ensures);
       spacing = spacing_added frame marks mark h _ _ _ (c.last.ensures marks h) (ap not c.is_near-far.ensures) c.raise.ensures;
       width = width_added frame marks mark h _ _ c.is_odd.ensures c.raise-2.ensures;
       last = last_added _ marks mark count;

@@ -4,4 +4,4 @@ use Rattle.leap_file.proofs.ReaderLaws.{finishes}
 use Rattle.leap_file.proofs.reader.LeapReader.finish.Goals as goal
 
 pub returns : goal.returns
-returns c = record { finished = λ bytes h. finishes c.take.new.self bytes c.take.result (c.take.ensures.taken bytes h); told = search rules }
+returns c = record { finished = λ bytes h. finishes c.take.new.self bytes c.take.result (c.take.ensures.taken bytes h); reported = search rules }

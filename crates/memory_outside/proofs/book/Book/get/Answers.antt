@@ -17,4 +17,4 @@ returns c =
     let row = c.row_at.result.now in
     let there = subst (λ l. slice_get l c.args.place ≡ Some row) c.deref.ensures.value c.row_at.ensures in
     let is = c.event.ensures ∙ ap (λ l. event_in l row) c.deref-2.ensures.value in
-    rw (← c.self.view_is) (event_some c.self.inside.tells c.self.inside.bytes.items c.self.inside.rows.items c.args.place row _ (search rules) there is)
+    rw (← c.self.view_is) (event_some c.self.inside.reports c.self.inside.bytes.items c.self.inside.rows.items c.args.place row _ (search rules) there is)

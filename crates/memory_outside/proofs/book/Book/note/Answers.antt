@@ -11,9 +11,9 @@ invariant_of-self-else-not-note_row c =
 pub returns-then-not-note_row : goal.returns-then-not-note_row
 returns-then-not-note_row c =
     let e = c.if-not-note_row.ensures in
-    rw (← c.self.view_is) (note_full c.self.inside.tells c.self.inside.bytes.items c.self.inside.rows.items _ (event_seen c.args.event.now) c.self.invariant.0 e.full)
+    rw (← c.self.view_is) (note_full c.self.inside.reports c.self.inside.bytes.items c.self.inside.rows.items _ (event_seen c.args.event.now) c.self.invariant.0 e.full)
 
 pub returns-else-not-note_row : goal.returns-else-not-note_row
 returns-else-not-note_row c =
     let e = c.if-not-note_row.ensures in
-    rw (← c.self.view_is) (note_push c.self.inside.tells c.self.inside.bytes.items c.note_row.new.bytes.items c.self.inside.rows.items c.note_row.new.rows.items _ (event_seen c.args.event.now) c.self.invariant.0 e.bytes e.rows)
+    rw (← c.self.view_is) (note_push c.self.inside.reports c.self.inside.bytes.items c.note_row.new.bytes.items c.self.inside.rows.items c.note_row.new.rows.items _ (event_seen c.args.event.now) c.self.invariant.0 e.bytes e.rows)

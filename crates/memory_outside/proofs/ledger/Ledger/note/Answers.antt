@@ -1,5 +1,5 @@
 -- What the search leaves open of `ledger::Ledger::note`.
-use Rattle.memory_outside.proofs.Rows.{AreRows-push, told_push, told_full}
+use Rattle.memory_outside.proofs.Rows.{AreRows-push, reported_push, reported_full}
 use Rattle.memory_outside.proofs.ledger.Ledger.note.Goals as goal
 
 pub invariant_of-self : goal.invariant_of-self
@@ -15,9 +15,9 @@ invariant_of-self-else-not-note_row c =
 pub returns-then-not-note_row : goal.returns-then-not-note_row
 returns-then-not-note_row c =
     let e = c.if-not-note_row.ensures in
-    rw (← c.self.view_is) (told_full c.self.inside.tells c.self.inside.names.items c.args.name.now c.self.inside.rows.items _ c.args.port c.args.opened c.self.invariant.0 c.requires e.full)
+    rw (← c.self.view_is) (reported_full c.self.inside.reports c.self.inside.names.items c.args.name.now c.self.inside.rows.items _ c.args.port c.args.opened c.self.invariant.0 c.requires e.full)
 
 pub returns-else-not-note_row : goal.returns-else-not-note_row
 returns-else-not-note_row c =
     let e = c.if-not-note_row.ensures in
-    rw (← c.self.view_is, e.rows, e.names) (told_push c.self.inside.tells c.self.inside.names.items c.args.name.now c.self.inside.rows.items _ c.args.port c.args.opened c.self.invariant.0.has_names)
+    rw (← c.self.view_is, e.rows, e.names) (reported_push c.self.inside.reports c.self.inside.names.items c.args.name.now c.self.inside.rows.items _ c.args.port c.args.opened c.self.invariant.0.has_names)

@@ -19,11 +19,11 @@ spelled c =
     let made = digest (secret_of c.args.id (keys_of c.args.self.now)) header in
     let long : length header ≡ 48 = omega (arith) in
     let first : take 48 (c.copy_from_slice.new.self ++ drop 48 c.args.out.now) ≡ header = rw c.copy_from_slice.ensures.after (rw long at (take-append_seam header (drop 48 c.args.out.now))) in
-    let front : take 52 c.put_id.new.out ≡ header ++ big_bytes 4 c.args.id = c.put_id.ensures.piece ∙ ap (λ (xs : List ℕ). xs ++ big_bytes 4 c.args.id) first in
+    let prefix : take 52 c.put_id.new.out ≡ header ++ big_bytes 4 c.args.id = c.put_id.ensures.piece ∙ ap (λ (xs : List ℕ). xs ++ big_bytes 4 c.args.id) first in
     let last : post_of 52 16 c.put_id.new.out ≡ [] = drop_all 16 (drop 52 c.put_id.new.out) (omega (arith, c.put_id.array_long, length-drop 52 c.put_id.new.out)) in
     let digested : c.copy_from_slice-2.new.self ≡ made = c.copy_from_slice-2.ensures.after ∙ rw c.keys.ensures at c.digest_by-digest.ensures.digest in
-    let behind : c.copy_from_slice-2.new.self ++ post_of 52 16 c.put_id.new.out ≡ made = ap (λ (xs : List ℕ). c.copy_from_slice-2.new.self ++ xs) last ∙ append-nil _ ∙ digested in
-    ap (λ (xs : List ℕ). xs ++ (c.copy_from_slice-2.new.self ++ post_of 52 16 c.put_id.new.out)) front ∙ ap (λ (xs : List ℕ). (header ++ big_bytes 4 c.args.id) ++ xs) behind
+    let later : c.copy_from_slice-2.new.self ++ post_of 52 16 c.put_id.new.out ≡ made = ap (λ (xs : List ℕ). c.copy_from_slice-2.new.self ++ xs) last ∙ append-nil _ ∙ digested in
+    ap (λ (xs : List ℕ). xs ++ (c.copy_from_slice-2.new.self ++ post_of 52 16 c.put_id.new.out)) prefix ∙ ap (λ (xs : List ℕ). (header ++ big_bytes 4 c.args.id) ++ xs) later
 
 pub returns-clause-bytes : goal.returns-clause-bytes
 returns-clause-bytes c = spelled c

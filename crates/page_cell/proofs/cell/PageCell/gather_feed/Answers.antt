@@ -8,7 +8,7 @@ use Rattle.page_cell.specs.Views.{both}
 use Rattle.page_cell.specs.declared.view.Claim.{Claim}
 use Rattle.page_cell.specs.declared.view.View.{View}
 use Rattle.page_cell.proofs.Joins.{joins}
-use Rattle.page_cell.proofs.PassKinds.{takes_in, told_of_feed}
+use Rattle.page_cell.proofs.PassKinds.{takes_in, reported_of_feed}
 use Rattle.page_cell.proofs.Splits.{cuts}
 use Rattle.page_cell.proofs.cell.PageCell.gather_feed.Goals as goal
 
@@ -40,6 +40,6 @@ returns-clause-claim c =
     let j = c.join_seat.ensures in
     let w = c.split_seat-whole.ensures in
     let joined : c.join_seat.new.seat.me.0 ≡ both c.b.inside.token.me.0 c.f.inside.token.me.0 = ap (λ (m : Me ℕ View). m.0) j.2 ∙ ap (λ (m : Me ℕ View). both c.b.inside.token.me.0 m.0) w.4 in
-    let told = told_of_feed _ _ c.b.inside.token.me.0 c.f.inside.token.me.0 c.f.invariant.1 (subst Holds joined c.look.ensures.told) in
+    let reported = reported_of_feed _ _ c.b.inside.token.me.0 c.f.inside.token.me.0 c.f.invariant.1 (subst Holds joined c.look.ensures.reported) in
     subst (λ (l : List Entry). IsTrueOf l (claim_of c.args.f.view)) (ap (λ (k : Known). k.view.list) c.b.view_is)
-    (subst (λ (d : Claim). IsTrueOf c.b.inside.token.me.0.list d) (ap (λ (k : Known). claim_of k.view) c.f.view_is) told)
+    (subst (λ (d : Claim). IsTrueOf c.b.inside.token.me.0.list d) (ap (λ (k : Known). claim_of k.view) c.f.view_is) reported)

@@ -6,7 +6,7 @@ use Rattle.page_cell.specs.Steps.{Holds}
 use Rattle.page_cell.specs.Views.{both}
 use Rattle.page_cell.specs.declared.view.View.{View}
 use Rattle.page_cell.proofs.Joins.{joins}
-use Rattle.page_cell.proofs.PassKinds.{takes_baton, told_before}
+use Rattle.page_cell.proofs.PassKinds.{takes_baton, reported_before}
 use Rattle.page_cell.proofs.Splits.{cuts, hands_back}
 use Rattle.page_cell.proofs.cell.PageCell.show.Goals as goal
 
@@ -49,6 +49,6 @@ returns-clause-before c =
     let w = c.split_seat-whole.ensures in
     let j = c.join_seat.ensures in
     let joined : c.join_seat.new.seat.me.0 ≡ both c.f.inside.token.me.0 c.b.inside.token.me.0 = ap (λ (m : Me ℕ View). m.0) j.2 ∙ ap (λ (m : Me ℕ View). both c.f.inside.token.me.0 m.0) w.4 in
-    let told = told_before _ _ _ c.f.inside.token.me.0 c.b.inside.token.me.0 c.f.invariant.1 c.b.invariant.1 (subst Holds joined c.look.ensures.told) in
+    let reported = reported_before _ _ _ c.f.inside.token.me.0 c.b.inside.token.me.0 c.f.invariant.1 c.b.invariant.1 (subst Holds joined c.look.ensures.reported) in
     subst (λ (k : Known). IsPrefix (claim_of c.args.f.now.view).seen k.view.list) c.b.view_is
-    (subst (λ (k : Known). IsPrefix (claim_of k.view).seen c.b.inside.token.me.0.list) c.f.view_is told)
+    (subst (λ (k : Known). IsPrefix (claim_of k.view).seen c.b.inside.token.me.0.list) c.f.view_is reported)

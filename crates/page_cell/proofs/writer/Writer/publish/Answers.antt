@@ -4,8 +4,8 @@ use Rattle.system_fold.specs.declared.feed.Feed.{Feed}
 use Rattle.std.specs.Prelude.{List}
 use Rattle.page_cell.proofs.writer.Writer.publish.Goals as goal
 
-pub step-requires-clause-lawful : goal.step-requires-clause-lawful
-step-requires-clause-lawful c =
+pub step-requires-clause-valid : goal.step-requires-clause-valid
+step-requires-clause-valid c =
     let w = c.self.inside in
     let stands = c.self.invariant.1 in
     let feeds = ap (λ (fs : List Feed). length fs) stands.feeds ∙ feeds-length w.baton.view.settings w.baton.view.list in

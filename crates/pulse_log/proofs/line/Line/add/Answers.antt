@@ -1,7 +1,7 @@
 -- What the proof of `line::Line::add` needs.
 use Rattle.std.proofs.Common.{arith}
 use Rattle.std.proofs.lemmas.List.{length_push}
-use Rattle.pulse_log.proofs.FrontLaws.{other_dead}
+use Rattle.pulse_log.proofs.PrefixLaws.{other_dead}
 use Rattle.pulse_log.proofs.line.Line.add.Goals as goal
 use Rattle.pulse_log.proofs.line.Line.add.Goals.{in_default-via-then-byte-lt48, in_default-via-else-byte-lt48+else-byte-lt58}
 

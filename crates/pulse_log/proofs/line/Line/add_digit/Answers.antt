@@ -1,7 +1,7 @@
 -- What the proof of `line::Line::add_digit` needs.
 use Rattle.std.proofs.Common.{◌<◌, ◌≤◌, ◌+◌, ◌*◌, ◌^◌, ℕ, List, [], ◌∷◌, ◌++◌, sym, ap, subst, arith}
 use Rattle.pulse_log.specs.Lines.{IsDead}
-use Rattle.pulse_log.proofs.FrontLaws.{start_push, zero_push, width_push, start_dead, zero_dead, width_dead}
+use Rattle.pulse_log.proofs.PrefixLaws.{start_push, zero_push, width_push, start_dead, zero_dead, width_dead}
 use Rattle.pulse_log.proofs.line.Line.add_digit.Goals as goal
 use Rattle.pulse_log.proofs.line.Line.add_digit.Goals.{else-start-gt0-via-then-start-gt0+else-start-lt-STARTS, else-start-gt0-via-else-start-gt0, else-width-ge-NARROWEST-via-then-width-ge-NARROWEST+else-width-le-WIDEST, else-width-ge-NARROWEST-via-else-width-ge-NARROWEST}
 

@@ -1,6 +1,6 @@
 -- What the proof of `line::Line::add_space` needs.
 use Rattle.std.proofs.Common.{◌∙◌, decimal, sym, ap, arith}
-use Rattle.pulse_log.proofs.FrontLaws.{space_push, so_far_some, other_dead}
+use Rattle.pulse_log.proofs.PrefixLaws.{space_push, so_far_some, other_dead}
 use Rattle.pulse_log.proofs.line.Line.add_space.Goals as goal
 use Rattle.pulse_log.proofs.line.Line.add_space.Goals.{in_default-via-in-Start+else-self-gt0, in_default-via-in_default}
 

@@ -1,6 +1,6 @@
 -- What the proof of `line::Line::reduction` needs.
 use Rattle.std.proofs.Common.{sym, arith}
-use Rattle.pulse_log.proofs.FrontLaws.{says_nothing, says_it}
+use Rattle.pulse_log.proofs.PrefixLaws.{says_nothing, says_it}
 use Rattle.pulse_log.proofs.line.Line.reduction.Goals as goal
 use Rattle.pulse_log.proofs.line.Line.reduction.Goals.{in_default-via-in-Width+else-self-ge-NARROWEST, in_default-via-in_default}
 

@@ -2,7 +2,7 @@
 use Rattle.std.proofs.Common.{◌≡◌, ℕ, ◌+◌, ◌∙◌, None, refl, sym, ap, arith}
 use Rattle.tick_units.specs.Log.{lines_of, pulses, reduction_of}
 use Rattle.pulse_log.specs.Reading.{least_after}
-use Rattle.pulse_log.proofs.LawfulLaws.{at_least, at_least_none, at_least_low}
+use Rattle.pulse_log.proofs.ValidLaws.{at_least, at_least_none, at_least_low}
 use Rattle.pulse_log.proofs.ReaderLaws.{ends_badly, ends_well, line_says, least_is}
 use Rattle.pulse_log.proofs.reader.LineReader.end_line.Goals as goal
 

@@ -2,7 +2,7 @@
 use Rattle.std.proofs.Common.{arith}
 use Rattle.std.proofs.lemmas.Bool.{ne_eqb}
 use Rattle.std.proofs.lemmas.List.{take_more}
-use Rattle.pulse_log.proofs.FrontsLaws.{goes_so}
+use Rattle.pulse_log.proofs.PrefixesLaws.{goes_so}
 use Rattle.pulse_log.proofs.reader.LineReader.go_on.Goals as goal
 
 pub bytes-preserved : goal.bytes-preserved

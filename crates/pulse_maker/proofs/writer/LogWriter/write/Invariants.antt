@@ -1,6 +1,6 @@
 -- What stays true in the loop of `writer::LogWriter::write`.
 use Rattle.std.proofs.Common.{◌≡◌, ℕ, ◌+◌, ◌*◌, ◌≤◌, List, ◌++◌, take}
-use Rattle.feed_link.specs.Told.{SinkState}
+use Rattle.outside_traits.specs.States.{SinkState}
 use Rattle.tick_units.specs.declared.marks.Plan.{Plan}
 use Rattle.pulse_maker.specs.Minutes.{seconds_from}
 use Rattle.pulse_maker.specs.Progress.{HasWritten}

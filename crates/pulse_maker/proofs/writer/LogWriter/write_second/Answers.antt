@@ -1,7 +1,7 @@
 -- What the search leaves open of `writer::LogWriter::write_second`.
 use Rattle.std.proofs.Common.{◌+◌, length, refl, ap, ◌∙◌, subst}
 use Rattle.pulse_maker.specs.Made.{parts_of, text_of}
-use Rattle.sink_text.specs.Writing.{WritesAll, WritesFront}
+use Rattle.sink_text.specs.Writing.{WritesAll, WritesPrefix}
 use Rattle.sink_text.proofs.WritingLaws.{on_err}
 use Rattle.pulse_maker.proofs.ProgressLaws.{written_push, stopped_push}
 use Rattle.pulse_maker.proofs.writer.LogWriter.write_second.Goals as goal
@@ -9,7 +9,7 @@ use Rattle.pulse_maker.proofs.writer.LogWriter.write_second.Goals as goal
 pub returns-in_err-count-clause-err : goal.returns-in_err-count-clause-err
 returns-in_err-count-clause-err g c = on_err c.from_residual.result (λ plan start begin seconds h.
     stopped_push plan start c.number_after-self.result begin (g.K.Sink.state c.args.out.now) (g.K.Sink.state c.write_parts.new.out) c.args.self.now seconds c.args.second c.number_after-self.ensures.value
-    (subst (λ n. WritesFront (g.K.Sink.state c.args.out.now) (g.K.Sink.state c.write_parts.new.out) (text_of (parts_of c.args.self.now.plan n c.args.second.symbol))) c.start_of-start.ensures.value c.in_err-count.ensures.err) h)
+    (subst (λ n. WritesPrefix (g.K.Sink.state c.args.out.now) (g.K.Sink.state c.write_parts.new.out) (text_of (parts_of c.args.self.now.plan n c.args.second.symbol))) c.start_of-start.ensures.value c.in_err-count.ensures.err) h)
 
 pub returns-clause-ok : goal.returns-clause-ok
 returns-clause-ok g c plan start begin seconds h =

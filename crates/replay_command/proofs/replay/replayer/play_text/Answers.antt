@@ -2,7 +2,7 @@
 use Rattle.std.proofs.Common.{◌≡◌, ℕ, List, length, false, ap, sym, ◌∙◌, subst, arith}
 use Rattle.std.proofs.lemmas.List.{length-take}
 use Rattle.script_line.specs.declared.line.ScriptLine.{ScriptLine}
-use Rattle.script_player.specs.Replay.{is_lawful, lines_of, played_so}
+use Rattle.script_player.specs.Replay.{is_valid, lines_of, played_so}
 use Rattle.script_player.specs.Texts.{outcome_text}
 use Rattle.replay_command.proofs.ScriptLaws.{some_line}
 use Rattle.replay_command.proofs.replay.replayer.play_text.Goals as goal
@@ -12,7 +12,7 @@ returns-in-Err-clause-plays g c = λ of before h.
     let played = c.in-Err.ensures.plays of before h in (
       λ line says.
           let same = some_line line.line c.in-Some.script_line (sym (c.read_line.ensures.every line.line says.0.0) ∙ c.in-Some.is) in
-          let not = subst (λ (l : ScriptLine). is_lawful of.station (lines_of before) l ≡ false) (sym same) played.0 in
+          let not = subst (λ (l : ScriptLine). is_valid of.station (lines_of before) l ≡ false) (sym same) played.0 in
           let may = says.0.1 in
           cc,
       played.1,

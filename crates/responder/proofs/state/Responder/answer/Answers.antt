@@ -1,8 +1,8 @@
 -- What the search leaves open of `state::Responder::answer`.
 use Rattle.std.proofs.Common.{◌≡◌, ◌∷◌, [], Ok, ap, refl, sym, ◌∙◌, subst}
-use Rattle.feed_link.specs.Faults.{RoseByOne}
-use Rattle.feed_link.specs.Told.NetEvent.{Timed, Went}
-use Rattle.feed_link.proofs.ToldLaws.{Adds-more}
+use Rattle.outside_traits.specs.Faults.{RoseByOne}
+use Rattle.outside_traits.specs.States.NetEvent.{Timed, Went}
+use Rattle.outside_traits.proofs.StateLaws.{Adds-more}
 use Rattle.sealed_reply.specs.Replies.{reply_to}
 use Rattle.responder.specs.Desks.{desk_of}
 use Rattle.responder.specs.Steps.{with_sent}
@@ -31,10 +31,10 @@ returns-in_default-read-clause-goes g c =
     record {
       turn = t;
       took = read_one before now t d c.in-Ok.page (Timed m ∷ []) refl refl refl refl
-          (c.in_default-read.field-0, c.in_default-read.ensures.dropped) refl c.moment-sent.ensures.told.event e.torn e.later e.reading e.page e.greatest;
+          (c.in_default-read.field-0, c.in_default-read.ensures.dropped) refl c.moment-sent.ensures.reported.event e.torn e.later e.reading e.page e.greatest;
       goes = refl;
       counted = refl;
-      faults = c.moment-sent.ensures.told.no_fault;
+      faults = c.moment-sent.ensures.reported.no_fault;
     }
 
 pub returns-in-Ok-send-clause-goes : goal.returns-in-Ok-send-clause-goes
@@ -51,10 +51,10 @@ returns-in-Ok-send-clause-goes g c =
     record {
       turn = t;
       took = read_one before now t d c.in-Ok.page (Timed m ∷ Went d.from c.bytes.result.now ∷ []) refl refl refl refl
-          (c.judge-judged.ensures.judged, replied ∙ ap Ok (sym c.bytes.ensures.value)) c.judge-judged.ensures.table (Adds-more _ _ _ (Timed m ∷ []) (Went d.from c.bytes.result.now ∷ []) c.moment-sent.ensures.told.event c.in-Ok-send.ensures.sent.event) e.torn e.later e.reading e.page e.greatest;
+          (c.judge-judged.ensures.judged, replied ∙ ap Ok (sym c.bytes.ensures.value)) c.judge-judged.ensures.table (Adds-more _ _ _ (Timed m ∷ []) (Went d.from c.bytes.result.now ∷ []) c.moment-sent.ensures.reported.event c.in-Ok-send.ensures.sent.event) e.torn e.later e.reading e.page e.greatest;
       goes = refl;
       counted = c.count_sent.ensures ∙ ap (λ s. with_sent j.code s) c.count_judged.ensures.counted;
-      faults = c.in-Ok-send.ensures.cause.kept ∙ c.moment-sent.ensures.told.no_fault;
+      faults = c.in-Ok-send.ensures.cause.kept ∙ c.moment-sent.ensures.reported.no_fault;
     }
 
 pub returns-in-Err-clause-stops : goal.returns-in-Err-clause-stops
@@ -75,7 +75,7 @@ returns-in-Err-clause-stops g c =
       moment = m;
       reply = c.bytes.result.now;
       took = read_one before now t d c.in-Ok.page (Timed m ∷ []) refl refl refl refl
-          (c.judge-judged.ensures.judged, replied ∙ ap Ok (sym c.bytes.ensures.value)) c.judge-judged.ensures.table (Adds-more _ _ _ (Timed m ∷ []) [] c.moment-sent.ensures.told.event c.in-Err.ensures.sent.event) e.torn e.later e.reading e.page e.greatest;
-      rose = subst (λ n. RoseByOne n (g.L.Link.state c.send.new.self).faults) c.moment-sent.ensures.told.no_fault c.in-Err.ensures.cause.rose;
+          (c.judge-judged.ensures.judged, replied ∙ ap Ok (sym c.bytes.ensures.value)) c.judge-judged.ensures.table (Adds-more _ _ _ (Timed m ∷ []) [] c.moment-sent.ensures.reported.event c.in-Err.ensures.sent.event) e.torn e.later e.reading e.page e.greatest;
+      rose = subst (λ n. RoseByOne n (g.L.Link.state c.send.new.self).faults) c.moment-sent.ensures.reported.no_fault c.in-Err.ensures.cause.rose;
       counted = ap (λ (s : Served). record s { end = LinkFault }) c.count_judged.ensures.counted;
     }

@@ -1,6 +1,6 @@
 -- What the search leaves open of `state::Responder::turn`.
 use Rattle.std.proofs.Common.{rules, ◌∷◌, [], take}
-use Rattle.feed_link.specs.Told.NetEvent.{Came}
+use Rattle.outside_traits.specs.States.NetEvent.{Came}
 use Rattle.responder.specs.Desks.{desk_of}
 use Rattle.responder.specs.Steps.{Goes, Stops}
 use Rattle.responder.proofs.TurnLaws.{on_false, on_true, whole_goes, whole_unsent}

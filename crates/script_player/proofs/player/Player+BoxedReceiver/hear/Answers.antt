@@ -3,8 +3,8 @@ use Rattle.std.proofs.Common.{refl, subst}
 use Rattle.std.proofs.lemmas.Result.{err_from_is_err_and}
 use Rattle.script_line.specs.declared.line.ScriptLine.TheVariants.{Pulse}
 use Rattle.script_player.specs.Replay.{lines_of}
-use Rattle.script_player.specs.KeptPlayer.{HasHeardPulse}
-use Rattle.script_player.proofs.PlayerLaws.{hears-entry, hears-none, still}
+use Rattle.script_player.specs.KeptPlayer.{HasReceivedPulse}
+use Rattle.script_player.proofs.PlayerLaws.{receives-entry, receives-none, still}
 use Rattle.script_player.proofs.player.Player+BoxedReceiver.hear.Goals as goal
 
 pub returns-in_err-entry-clause-plays : goal.returns-in_err-entry-clause-plays
@@ -15,11 +15,11 @@ returns-in_err-entry-clause-plays g c of before h =
 pub returns-in-Some-clause-plays : goal.returns-in-Some-clause-plays
 returns-in-Some-clause-plays g c of before h =
     let heard = c.in_ok-entry.ensures.heard of.station (lines_of before) h.radios in
-    hears-entry _ c.args.self.now _ of before c.args.feed c.args.reduction c.in-Some.entry c.take.result
-    (heard.0, subst (HasHeardPulse (λ b h. (goal.Receiver-dyn g (b.vtable, b.value)).stands_for b.value h) c.hear.new.self of.station (lines_of before) (Pulse c.args.feed c.args.reduction)) c.in-Some.is heard.1) refl refl refl refl c.take.ensures.kept c.take.ensures.outcome h
+    receives-entry _ c.args.self.now _ of before c.args.feed c.args.reduction c.in-Some.entry c.take.result
+    (heard.0, subst (HasReceivedPulse (λ b h. (goal.Receiver-dyn g (b.vtable, b.value)).stands_for b.value h) c.hear.new.self of.station (lines_of before) (Pulse c.args.feed c.args.reduction)) c.in-Some.is heard.1) refl refl refl refl c.take.ensures.kept c.take.ensures.outcome h
 
 pub returns-in-None-clause-plays : goal.returns-in-None-clause-plays
 returns-in-None-clause-plays g c of before h =
     let heard = c.in_ok-entry.ensures.heard of.station (lines_of before) h.radios in
-    hears-none _ c.args.self.now _ of before c.args.feed c.args.reduction
-    (heard.0, subst (HasHeardPulse (λ b h. (goal.Receiver-dyn g (b.vtable, b.value)).stands_for b.value h) c.hear.new.self of.station (lines_of before) (Pulse c.args.feed c.args.reduction)) c.in-None.is heard.1) refl refl refl refl refl h
+    receives-none _ c.args.self.now _ of before c.args.feed c.args.reduction
+    (heard.0, subst (HasReceivedPulse (λ b h. (goal.Receiver-dyn g (b.vtable, b.value)).stands_for b.value h) c.hear.new.self of.station (lines_of before) (Pulse c.args.feed c.args.reduction)) c.in-None.is heard.1) refl refl refl refl refl h

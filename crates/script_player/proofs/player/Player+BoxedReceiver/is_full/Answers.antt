@@ -1,5 +1,5 @@
 -- What the search leaves open of `player::Player+BoxedReceiver::is_full`.
-use Rattle.station_config.specs.Station.{settings_of}
+use Rattle.station_values.specs.Station.{settings_of}
 use Rattle.script_player.specs.Replay.{due, lines_of}
 use Rattle.script_player.proofs.player.Player+BoxedReceiver.is_full.Goals as goal
 

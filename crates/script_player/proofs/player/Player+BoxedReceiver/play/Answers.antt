@@ -18,4 +18,4 @@ pub returns-in-Request-clause-plays : goal.returns-in-Request-clause-plays
 returns-in-Request-clause-plays g c of before h = rw c.in-Request.is (refl, c.reply.ensures.given of before h)
 
 pub returns-in-Leap-clause-plays : goal.returns-in-Leap-clause-plays
-returns-in-Leap-clause-plays g c of before h = rw c.in-Leap.is (c.tell.ensures.plays of before h)
+returns-in-Leap-clause-plays g c of before h = rw c.in-Leap.is (c.announce.ensures.plays of before h)

@@ -3,7 +3,7 @@ use Rattle.std.proofs.Common.{◌≡◌, ◌∙◌, ◌≤◌, Some, All, refl, 
 use Rattle.std.proofs.lemmas.List.Elements.{All-nil}
 use Rattle.std.specs.List.{slice_get}
 use Rattle.std.specs.Option.{option_map}
-use Rattle.station_config.specs.KeptStation.{radio_given}
+use Rattle.station_values.specs.KeptStation.{radio_given}
 use Rattle.script_player.specs.KeptPlayer.{first_radios}
 use Rattle.receiver_rack.proofs.ListLaws.{some-at}
 use Rattle.script_player.proofs.NewLaws.{all-radios, goes-on, some-left, starts}

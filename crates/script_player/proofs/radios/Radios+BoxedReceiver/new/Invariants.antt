@@ -1,6 +1,6 @@
 -- What stays true in the loops of `radios::Radios+BoxedReceiver::new`.
 use Rattle.std.proofs.Common.{◌≡◌, [], length}
-use Rattle.station_config.specs.Station.{IsStation}
+use Rattle.station_values.specs.Station.{IsStation}
 use Rattle.script_player.specs.KeptPlayer.{AreReady, HasRadios, first_radios}
 use Rattle.script_player.proofs.radios.Radios+BoxedReceiver.new.Given as goal
 

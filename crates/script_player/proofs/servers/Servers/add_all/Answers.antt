@@ -2,7 +2,7 @@
 use Rattle.std.proofs.Common.{◌≡◌, ◌∙◌, ◌+◌, [], Some, sym, ap, subst, arith, rules}
 use Rattle.std.specs.List.{slice_get}
 use Rattle.std.specs.Option.{option_map}
-use Rattle.station_config.specs.KeptStation.{server_fields}
+use Rattle.station_values.specs.KeptStation.{server_fields}
 use Rattle.poll_core.specs.Polling.{HasPolled}
 use Rattle.script_player.specs.KeptPlayer.{HasPolling, first_servers}
 use Rattle.receiver_rack.proofs.ListLaws.{some-at}

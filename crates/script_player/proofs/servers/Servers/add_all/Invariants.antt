@@ -1,6 +1,6 @@
 -- What stays true in the loops of `servers::Servers::add_all`.
 use Rattle.std.proofs.Common.{◌≡◌, ◌≤◌, [], length, vec_capacity}
-use Rattle.station_config.specs.Station.{IsStation}
+use Rattle.station_values.specs.Station.{IsStation}
 use Rattle.script_player.specs.KeptPlayer.{HasPolling, first_servers}
 use Rattle.script_player.proofs.servers.Servers.add_all.Given as goal
 

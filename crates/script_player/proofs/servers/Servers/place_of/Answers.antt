@@ -4,14 +4,14 @@ use Rattle.std.proofs.lemmas.Option.{slice_get_read}
 use Rattle.script_player.proofs.ServerLaws.{polls, polls-late}
 use Rattle.script_player.proofs.servers.Servers.place_of.Goals as goal
 
-pub returns-then-get-clause-lawful : goal.returns-then-get-clause-lawful
-returns-then-get-clause-lawful c station lines h =
+pub returns-then-get-clause-valid : goal.returns-then-get-clause-valid
+returns-then-get-clause-valid c station lines h =
     let servers = c.args.self.now.servers in
     let here = slice_get_read servers.items (length servers.items) c.in-Some.place c.index.result.now refl (omega (arith, servers.ok.0)) c.index.ensures in
     (polls-late c.args.self.now station lines c.args.feed c.in-Some.place c.args.at c.index.result.now (omega arith) here (omega arith) h, tt)
 
-pub returns-clause-lawful : goal.returns-clause-lawful
-returns-clause-lawful c station lines h =
+pub returns-clause-valid : goal.returns-clause-valid
+returns-clause-valid c station lines h =
     let servers = c.args.self.now.servers in
     let here = slice_get_read servers.items (length servers.items) c.in-Some.place c.index.result.now refl (omega (arith, servers.ok.0)) c.index.ensures in
     let e : c.args.feed ≡ c.args.self.now.first + c.in-Some.place = omega arith in

@@ -9,8 +9,8 @@ use Rattle.system_fold.specs.declared.feed.Feed.{Feed}
 use Rattle.station_world.proofs.StepLaws.{page_before}
 use Rattle.station_world.proofs.world.World.enter.Goals as goal
 
-pub step-requires-clause-lawful : goal.step-requires-clause-lawful
-step-requires-clause-lawful c =
+pub step-requires-clause-valid : goal.step-requires-clause-valid
+step-requires-clause-valid c =
     let w = c.self.inside in
     let feeds = ap (λ (fs : List Feed). length fs) c.self.invariant.fold.feeds ∙ feeds-length w.settings.value w.entries.items in
     let below : c.args.e.now.feed < w.feeds = search rules in

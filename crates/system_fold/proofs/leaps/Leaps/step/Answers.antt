@@ -14,5 +14,5 @@ returns-clause-leaps c = λ journal h.
       now = c.later-self.ensures.value ∙ ap (λ (s : Leaps). max s.latest c.args.e.now.at) v ∙ ap (λ (s : Leaps). max s.latest c.args.e.now.at) w;
       verdict = ap (λ (s : Leaps). s.verdict) v ∙ ap (λ (s : Leaps). or_older (verdict_in c.args.e.now.at c.args.e.now.what) s.verdict) w;
       words = ap (λ (s : Leaps). s.words) v ∙ ap (λ (s : Leaps). s.words) w;
-      cut = c.max-self.ensures ∙ ap (λ (s : Leaps). max s.cut c.last_passed.result) v ∙ ap (λ (s : Leaps). max s.cut c.last_passed.result) w ∙ ap (λ (n : ℕ). max c.args.self.now.cut n) (c.last_passed.ensures ∙ c.telling.ensures.passed _ _);
+      cut = c.max-self.ensures ∙ ap (λ (s : Leaps). max s.cut c.last_passed.result) v ∙ ap (λ (s : Leaps). max s.cut c.last_passed.result) w ∙ ap (λ (n : ℕ). max c.args.self.now.cut n) (c.last_passed.ensures ∙ c.announcing.ensures.passed _ _);
     }) h

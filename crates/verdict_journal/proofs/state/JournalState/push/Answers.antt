@@ -1,7 +1,7 @@
 -- What the search leaves open of `JournalState::push`.
 use Rattle.std.proofs.Common.{◌≡◌, ℕ, ◌+◌, ◌<◌, List, [], ◌∷◌, ◌++◌, length, rules, sym, ap, ◌∙◌, subst, arith, length-append}
 use Rattle.std.specs.Prelude.{vec_capacity}
-use Rattle.journal_entry.specs.Lawful.{IsLawful}
+use Rattle.journal_entry.specs.Valid.{IsValid}
 use Rattle.page_cell.specs.Passes.{key_of}
 use Rattle.system_fold.proofs.StandingLaws.{feeds-length}
 use Rattle.system_fold.specs.KeptFold.{StandsForJournal}
@@ -11,11 +11,11 @@ use Rattle.verdict_journal.proofs.NumberLaws.{numbered-push}
 use Rattle.verdict_journal.specs.Journals.{numbered_of}
 use Rattle.verdict_journal.proofs.state.JournalState.push.Goals as goal
 
-pub step-requires-clause-lawful : goal.step-requires-clause-lawful
-step-requires-clause-lawful g c =
+pub step-requires-clause-valid : goal.step-requires-clause-valid
+step-requires-clause-valid g c =
     let b = c.self.inside.baton in
     let feeds = ap (λ (fs : List Feed). length fs) c.self.invariant.0.folded.feeds ∙ feeds-length (key_of b.view) b.view.list ∙ ap (λ (s : SettingsFields). length s.sources) c.self.invariant.2 in
-    subst (λ (n : ℕ). IsLawful n c.args.e) (sym feeds) c.requires.lawful
+    subst (λ (n : ℕ). IsValid n c.args.e) (sym feeds) c.requires.valid
 
 pub invariant_of-self-2 : goal.invariant_of-self-2
 invariant_of-self-2 g c =

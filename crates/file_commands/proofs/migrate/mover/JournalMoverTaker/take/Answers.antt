@@ -2,7 +2,7 @@
 use Rattle.std.proofs.Common.{◌≡◌, ◌+◌, ◌++◌, ℕ, [], Some, take, ap, subst, sym, ◌∙◌, arith}
 use Rattle.file_commands.specs.JournalTaking.{IsMovedBy, journal_way}
 use Rattle.file_commands.proofs.LineTakingLaws.{took_more, took_line, took_long, took_none}
-use Rattle.file_commands.proofs.MovingLaws.{limit_behind, limit_within, moved_ends, none_behind, some_room}
+use Rattle.file_commands.proofs.MovingLaws.{limit_after, limit_within, moved_ends, none_later, some_room}
 use Rattle.file_commands.proofs.migrate.mover.JournalMoverTaker.take.Goals as goal
 
 pub returns-then-self-eq-MOST_LINES-clause-holds : goal.returns-then-self-eq-MOST_LINES-clause-holds
@@ -10,7 +10,7 @@ returns-then-self-eq-MOST_LINES-clause-holds c = λ of before text h.
     let full : c.args.self.now.lines ≡ 4194304 = omega arith in
     subst (λ (n : ℕ). IsMovedBy c.args.self.now of (before ++ take 1 c.args.bytes.now) (text ++ []) (Some n)) (ap (λ n. n + 1) full)
     (took_none (journal_way of) some_room (moved_ends of) c.args.self.now.mover c.args.self.now.cutter c.args.self.now.lines c.args.bytes.now before text h c.requires.some
-    (limit_behind c.args.self.now.lines (omega arith)) (λ items t item count says. none_behind of items t item (sym count ∙ full) says))
+    (limit_after c.args.self.now.lines (omega arith)) (λ items t item count says. none_later of items t item (sym count ∙ full) says))
 
 pub returns-in-More-clause-holds : goal.returns-in-More-clause-holds
 returns-in-More-clause-holds c = λ of before text h.

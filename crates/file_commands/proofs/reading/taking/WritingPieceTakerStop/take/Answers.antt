@@ -9,8 +9,8 @@ pub returns-in-Err-clause-takes : goal.returns-in-Err-clause-takes
 returns-in-Err-clause-takes g c = λ of bytes taken.
     let h = c.rest.invariant.so_far of bytes taken in
     let took = c.take-took.result in
-    stopped_at of.1 _ _ c.rest.rest.now _ h (g.T.Taker.holds c.take-took.new.self of.0) (g.T.Taker.says of.0) (g.met.T.Taker.held_says c.take-took.new.self of.0) (g.met.T.Taker.held_says _ of.0 h.front h.text h.held)
-    _ took.count (let short = c.rest.invariant.short in let small = c.requires.short in omega arith) took.found c.take-took.new.line (c.take-took.ensures.holds of.0 h.front h.text h.held) c.in-Err.stop c.in-Err.ensures
+    stopped_at of.1 _ _ c.rest.rest.now _ h (g.T.Taker.holds c.take-took.new.self of.0) (g.T.Taker.says of.0) (g.met.T.Taker.held_says c.take-took.new.self of.0) (g.met.T.Taker.held_says _ of.0 h.prefix h.text h.held)
+    _ took.count (let short = c.rest.invariant.short in let small = c.requires.short in omega arith) took.found c.take-took.new.line (c.take-took.ensures.holds of.0 h.prefix h.text h.held) c.in-Err.stop c.in-Err.ensures
 
 pub rest-preserved : goal.rest-preserved
 rest-preserved g c = record {
@@ -26,5 +26,5 @@ rest-preserved g c = record {
       let h = c.rest.invariant.so_far of bytes taken in
       let took = c.take-took.result in
       rw c.split_at.ensures.back (taken_on of.1 _ _ c.rest.rest.now _ h _ _ took.count (given took.found c.take-took.new.line) (bad_of took.found)
-      (c.take-took.ensures.holds of.0 h.front h.text h.held) c.in-Ok.ensures.0 c.in-Ok.ensures.1);
+      (c.take-took.ensures.holds of.0 h.prefix h.text h.held) c.in-Ok.ensures.0 c.in-Ok.ensures.1);
 }

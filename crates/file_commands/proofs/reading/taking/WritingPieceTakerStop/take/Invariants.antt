@@ -1,6 +1,6 @@
 -- What stays true in the loops of `reading::taking::WritingPieceTakerStop::take`.
 use Rattle.std.proofs.Common.{◌≡◌, ◌+◌, ◌≤◌, ℕ, List, ◌++◌, length}
-use Rattle.feed_link.specs.Told.{SinkState}
+use Rattle.outside_traits.specs.States.{SinkState}
 use Rattle.journal_entry.specs.declared.writer.TheConstants.{LINE_ROOM}
 use Rattle.file_commands.specs.Taking.{TakesAll}
 use Rattle.file_commands.proofs.TakingLaws.{IsTakenSoFar}
