@@ -3,7 +3,7 @@
 //! section 7.3.
 ghost use Rattle.std.specs.Prelude.{◌≡◌, ◌<◌, ◌≤◌};
 ghost use Rattle.radio_receiver.specs.Histories.{blank_of};
-ghost use Rattle.crew_work.specs.Served.{AreBlank};
+ghost use Rattle.feed_workers.specs.Served.{AreBlank};
 ghost use Rattle.tick_units.specs.declared.marks.Plan.TheVariants.{Dcf};
 
 use crate::fakes::{Wire, link_of, minutes, source_of};

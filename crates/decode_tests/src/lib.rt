@@ -7,19 +7,19 @@
 #[cfg(test)]
 mod counting_tests;
 #[cfg(test)]
+mod decoder_tests;
+#[cfg(test)]
 mod drill_day_tests;
 #[cfg(test)]
 mod frame_tests;
 #[cfg(test)]
 mod leap_tests;
 #[cfg(test)]
-mod log_decoder_tests;
+mod maker_tests;
 #[cfg(test)]
 mod minute_pair_tests;
 #[cfg(test)]
 mod pulse_log_tests;
-#[cfg(test)]
-mod pulse_maker_tests;
 #[cfg(test)]
 mod radio_receiver_tests;
 #[cfg(test)]

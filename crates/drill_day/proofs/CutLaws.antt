@@ -9,8 +9,8 @@ use Rattle.minute_pair.specs.Segments.{cut}
 use Rattle.tick_units.specs.declared.marks.Mark.{Mark}
 use Rattle.tick_units.specs.declared.marks.Plan.{Plan}
 use Rattle.tick_units.specs.declared.marks.Symbol.{Symbol}
-use Rattle.pulse_maker.specs.Made.{number_from, start_of}
-use Rattle.pulse_maker.specs.Minutes.{seconds_from}
+use Rattle.drill_day.specs.Made.{number_from, start_of}
+use Rattle.drill_day.specs.Minutes.{seconds_from}
 use Rattle.drill_day.proofs.MarkLaws.{mark_at, marks_from}
 
 -- a mark begins a minute, by the mark just before it

@@ -9,7 +9,7 @@ use Rattle.journal_entry.specs.declared.entry.Entry.{Entry}
 use Rattle.frame_rules.specs.Codes.{Code}
 use Rattle.frame_rules.specs.Fields.{symbols_of as symbols_in}
 use Rattle.frame_rules.proofs.SentLaws.{OpensAfter, OpensAlone, is_alone}
-use Rattle.log_decoder.specs.Due.{entry_of}
+use Rattle.radio_receiver.specs.Due.{entry_of}
 use Rattle.minute_pair.specs.Answers.{agreed_leap, answers, answers_after, are_timely, judged, judged_by, kind_after, kind_alone, kind_following, kind_of_both, kind_of_valid}
 use Rattle.code_plans.specs.Codes.{code_of, sending_of}
 use Rattle.code_plans.proofs.Sent.{fits, reads}
@@ -25,15 +25,15 @@ use Rattle.tick_units.specs.declared.verdicts.Broken.{Broken}
 use Rattle.tick_units.specs.declared.verdicts.Coded.{Coded}
 use Rattle.tick_units.specs.declared.verdicts.Heard.{Heard}
 use Rattle.tick_units.specs.declared.verdicts.Kind.TheVariants.{Verdict, Differs}
-use Rattle.pulse_maker.specs.Made.{made, number_from, reductions_from, seeded, start_of, text_of}
-use Rattle.pulse_maker.specs.Minutes.{closing_symbols, coded_of, is_damaged, index_of, opening_index, opening_symbols, seconds_from, seconds_of, symbols_of}
-use Rattle.pulse_maker.specs.declared.seconds.Second.{Second}
-use Rattle.pulse_maker.proofs.MakingLaws.{minute_seconds}
-use Rattle.journal_orders.specs.Orders.{NamesNoLeap, leap_in, leap_named}
+use Rattle.drill_day.specs.Made.{made, number_from, reductions_from, seeded, start_of, text_of}
+use Rattle.drill_day.specs.Minutes.{closing_symbols, coded_of, is_damaged, index_of, opening_index, opening_symbols, seconds_from, seconds_of, symbols_of}
+use Rattle.drill_day.specs.declared.seconds.Second.{Second}
+use Rattle.drill_day.proofs.MakingLaws.{minute_seconds}
+use Rattle.drill_day.specs.Orders.{NamesNoLeap, leap_in, leap_named}
 use Rattle.pulse_log.specs.Writing.{line_of}
 use Rattle.pulse_log.proofs.LineLaws.{long_line, says}
-use Rattle.pulse_maker.proofs.OrderLaws.{InOrder, made_in_order, made_is_read, made_rises}
-use Rattle.pulse_maker.proofs.ReadLaws.{Rises}
+use Rattle.drill_day.proofs.MadeOrderLaws.{InOrder, made_in_order, made_is_read, made_rises}
+use Rattle.drill_day.proofs.ReadLaws.{Rises}
 use Rattle.drill_day.specs.Day.{IsDay, day_due, day_log, first_minute, minutes_of_a_day}
 use Rattle.drill_day.proofs.CutLaws.{shape_of}
 use Rattle.drill_day.proofs.MarkLaws.{are_alone, end_if, mark_at, marks_from, marks_shown, ones_count, read_as}

@@ -14,9 +14,9 @@ use Rattle.tick_units.specs.declared.marks.Plan.{Plan}
 use Rattle.tick_units.specs.declared.marks.Reduction.{Reduction}
 use Rattle.tick_units.specs.declared.marks.Symbol.{Symbol}
 use Rattle.tick_units.specs.declared.marks.Symbol.TheVariants.{Zero, One, OnlyB, Both, Long, Odd}
-use Rattle.pulse_maker.specs.Made.{number_from, parts_of, reductions_from, start_of, width_of}
-use Rattle.pulse_maker.specs.declared.seconds.Second.{Second}
-use Rattle.pulse_maker.proofs.OrderLaws.{InOrder}
+use Rattle.drill_day.specs.Made.{number_from, parts_of, reductions_from, start_of, width_of}
+use Rattle.drill_day.specs.declared.seconds.Second.{Second}
+use Rattle.drill_day.proofs.MadeOrderLaws.{InOrder}
 
 -- as what a plan reads the width by which it spells a symbol
 abbrev pub read_as : Plan → Symbol → Symbol

@@ -9,10 +9,10 @@ use Rattle.minute_pair.specs.Segments.{cut}
 use Rattle.tick_units.specs.declared.marks.Mark.{Mark}
 use Rattle.tick_units.specs.declared.marks.Plan.{Plan}
 use Rattle.tick_units.specs.declared.marks.Symbol.{Symbol}
-use Rattle.pulse_maker.specs.Made.{number_from, start_of}
-use Rattle.pulse_maker.specs.Minutes.{coded_of, index_of, is_damaged, seconds_from, symbols_of}
-use Rattle.pulse_maker.specs.declared.seconds.Second.{Second}
-use Rattle.pulse_maker.proofs.MakingLaws.{minute_seconds}
+use Rattle.drill_day.specs.Made.{number_from, start_of}
+use Rattle.drill_day.specs.Minutes.{coded_of, index_of, is_damaged, seconds_from, symbols_of}
+use Rattle.drill_day.specs.declared.seconds.Second.{Second}
+use Rattle.drill_day.proofs.MakingLaws.{minute_seconds}
 use Rattle.drill_day.proofs.CutLaws.{onto_prefix, onto_none, quiet, shape_of}
 use Rattle.drill_day.proofs.MarkLaws.{mark_at, marks_append, marks_from}
 

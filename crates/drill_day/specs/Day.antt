@@ -6,9 +6,9 @@ use Rattle.tick_units.specs.Log.{bad_at_end}
 use Rattle.tick_units.specs.declared.marks.Plan.{Plan}
 use Rattle.tick_units.specs.declared.marks.Plan.TheVariants.{Dcf, Msf, Wwvb}
 use Rattle.journal_entry.specs.declared.entry.Entry.{Entry}
-use Rattle.journal_orders.specs.Orders.{NamesNoLeap}
-use Rattle.log_decoder.specs.Due.{due_log}
-use Rattle.pulse_maker.specs.Made.{made, text_of}
+use Rattle.drill_day.specs.Orders.{NamesNoLeap}
+use Rattle.radio_receiver.specs.Due.{due_log}
+use Rattle.drill_day.specs.Made.{made, text_of}
 
 -- 2026-03-01 00:00 UTC
 abbrev pub first_minute : ℕ

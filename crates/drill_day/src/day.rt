@@ -4,9 +4,9 @@ ghost use Rattle.drill_day.specs.Day.{day_log, day_logs, source_of, IsDay};
 ghost use Rattle.memory_links.specs.Memory.{sure_state};
 ghost use Rattle.tick_units.specs.declared.marks.Plan.{Plan};
 
+use crate::make;
 use memory_links::{MemorySink, SureSource};
 use outside_traits::Failed;
-use pulse_maker::make;
 use std::alloc::{AllocError, Global};
 use std::thread::{Threads, join};
 use tick_units::Plan;

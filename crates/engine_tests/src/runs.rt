@@ -1,15 +1,15 @@
 //! The one call of the program over the fakes, as every test here makes it.
 ghost use Rattle.std.specs.Prelude.{◌≡◌, false};
 ghost use Rattle.memory_outside.specs.MemoryOutside.{is_gate_out};
-ghost use Rattle.receiver_rack.specs.Racks.{IsRack};
+ghost use Rattle.station_gear.specs.Racks.{IsRack};
 
 use memory_links::MemorySink;
 use memory_outside::MemoryOutside;
 use outside_traits::Gate;
 use radio_engine::{Status, run_station};
 use radio_receiver::{DcfReceiver, MsfReceiver, Receiver, WwvbReceiver};
-use receiver_rack::put_in_rack;
-use script_player::BoxedReceiver;
+use replay_command::BoxedReceiver;
+use station_gear::put_in_rack;
 use std::alloc::{AllocError, Global};
 use std::fmt::Debug;
 use std::process::Abort;

@@ -5,3 +5,5 @@ pub mod LogLaws
 pub mod PollLaws
 pub mod RequestLaws
 pub mod RoundLaws
+pub mod ListLaws
+pub mod JournalLaws

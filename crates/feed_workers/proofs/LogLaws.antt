@@ -3,10 +3,10 @@ use Rattle.std.proofs.Common.{◌≡◌, ℕ, Option, None, Some, Result, Ok, Er
 use Rattle.std.proofs.lemmas.Bool.Decides.{nat_tests}
 use Rattle.std.proofs.lemmas.List.{append-nil, take-append-drop}
 use Rattle.journal_entry.specs.declared.entry.Entry.{Entry}
-use Rattle.log_decoder.specs.Decoding.{HasDecoded, DecodesPrefix, radio_log}
-use Rattle.log_decoder.proofs.DueLaws.{due_none}
-use Rattle.log_decoder.specs.Due.{due_log, entry_of}
-use Rattle.log_decoder.specs.declared.decoder.LogDecoder.{LogDecoder}
+use Rattle.radio_receiver.specs.Decoding.{HasDecoded, DecodesPrefix, radio_log}
+use Rattle.radio_receiver.proofs.DueLaws.{due_none}
+use Rattle.radio_receiver.specs.Due.{due_log, entry_of}
+use Rattle.radio_receiver.specs.declared.decoder.LogDecoder.{LogDecoder}
 use Rattle.page_cell.specs.declared.view.Claim.{Claim}
 use Rattle.pulse_log.proofs.LogLaws.{bad_stays}
 use Rattle.pulse_log.specs.declared.reader.BadLine.{BadLine as Bad}

@@ -3,8 +3,8 @@ use Rattle.std.specs.Prelude.{◌≡◌, ℕ, ◌⊎◌, Some, None, List}
 use Rattle.outside_traits.specs.States.{SourceState}
 use Rattle.file_reader.specs.Ends.{HasReadPrefix, EndsReading}
 use Rattle.file_reader.specs.declared.reader.FileEnd.TheVariants as file
-use Rattle.log_decoder.specs.Decoding.{most_of_a_log}
-use Rattle.log_decoder.specs.Due.{due_log}
+use Rattle.radio_receiver.specs.Decoding.{most_of_a_log}
+use Rattle.radio_receiver.specs.Due.{due_log}
 use Rattle.page_cell.specs.Passes.{claim_of}
 use Rattle.tick_units.specs.Log.{bad_at_end, bad_line}
 use Rattle.tick_units.specs.declared.marks.Plan.{Plan}

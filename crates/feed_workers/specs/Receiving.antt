@@ -1,8 +1,8 @@
 -- The bytes of a log piece by piece: scaffolding for the proof of a radio's worker, which no public clause needs.
 use Rattle.std.specs.Prelude.{◌≡◌, ℕ, Option, None, Some, Result, List, ◌++◌}
-use Rattle.log_decoder.specs.Decoding.{HasDecoded}
-use Rattle.log_decoder.specs.Due.{due_log}
-use Rattle.log_decoder.specs.declared.decoder.LogDecoder.{LogDecoder}
+use Rattle.radio_receiver.specs.Decoding.{HasDecoded}
+use Rattle.radio_receiver.specs.Due.{due_log}
+use Rattle.radio_receiver.specs.declared.decoder.LogDecoder.{LogDecoder}
 use Rattle.radio_receiver.specs.Histories.{History}
 use Rattle.tick_units.specs.Log.{bad_line}
 use Rattle.tick_units.specs.declared.marks.Plan.{Plan}

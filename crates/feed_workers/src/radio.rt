@@ -1,6 +1,6 @@
 //! The worker of a radio, which reads its log.
 ghost use Rattle.std.specs.Prelude.{◌≡◌, ◌≤◌, ◌<◌, ◌++◌, [], ℕ, List, None, length, take};
-ghost use Rattle.log_decoder.specs.Decoding.{HasDecoded, IsReady, feed_of};
+ghost use Rattle.radio_receiver.specs.Decoding.{HasDecoded, IsReady, feed_of};
 ghost use Rattle.feed_workers.specs.Receiving.{EndsReceiving, HasReceived, HasMissed, Tuning};
 ghost use Rattle.file_reader.specs.Pieces.{TakesOrStops};
 ghost use Rattle.feed_workers.specs.Keeping.{IsOfFeed, share_of};
@@ -12,11 +12,10 @@ ghost use Rattle.tick_units.specs.declared.marks.Plan.{Plan};
 use crate::keeping::{Post, Recorder};
 use crate::work::LogWork;
 use file_reader::{FileEnd, LogEnd, PieceTaker, read_pieces};
-use log_decoder::{LOG_LIMIT, LogDecoder};
 use outside_traits::{Gate, Source};
 use page_cell::FeedPass;
 use pulse_log::Taken;
-use radio_receiver::{BoxedReceiver, Receiver};
+use radio_receiver::{BoxedReceiver, LOG_LIMIT, LogDecoder, Receiver};
 use std::sync::Wait;
 use verdict_journal::{Hub, HubName};
 
@@ -109,7 +108,7 @@ struct Listening<'a, K, Q: Drop> {
 impl<K: Recorder, Q: Receiver> PieceTaker<u64> for Listening<'_, K, Q> {
     ghost use Rattle.std.specs.Borrow.{GName};
     ghost use Rattle.std.specs.Prelude.{◌^◌, ℕ, None};
-    ghost use Rattle.log_decoder.specs.Decoding.{IsReady, feed_of};
+    ghost use Rattle.radio_receiver.specs.Decoding.{IsReady, feed_of};
     ghost use Rattle.feed_workers.specs.Receiving.{Since, HasReceived, HasMissed};
     ghost use Rattle.feed_workers.specs.Keeping.{IsOfFeed, share_of};
 

@@ -20,10 +20,11 @@ use Rattle.system_fold.specs.Numbered.{numbered, numbered_after, numbered_next}
 use Rattle.station_values.specs.Station.{StationFields, settings_of}
 use Rattle.system_fold.specs.Settings.{SettingsFields}
 use Rattle.file_commands.specs.JournalTaking.{journal_way, journal_taker}
-use Rattle.file_commands.specs.LineTaking.{LineTexts, TakesLine}
+use Rattle.line_files.specs.LineTaking.{LineTexts, TakesLine}
 use Rattle.file_commands.specs.declared.migrate.mover.JournalMover.{JournalMover}
 use Rattle.file_commands.specs.Moving.{HasMoved, IsFormOf, IsMoving, MoverFields, MovesLine, MovesText}
-use Rattle.file_commands.specs.Migrating.{HasFormOf, StatesNumber, entries_of, journal_line_limit, journal_text, most_lines, says_line}
+use Rattle.file_commands.specs.Migrating.{HasFormOf, StatesNumber, entries_of, journal_line_limit, most_lines, says_line}
+use Rattle.line_files.specs.Texts.{journal_text}
 
 abbrev length_limit : Bool → ℕ
 length_limit same = cond same 1 300

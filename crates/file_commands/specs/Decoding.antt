@@ -1,25 +1,25 @@
 -- The command `decode`: what it opens, which bytes of the log it reads, why the reading ends, and what it writes. All of it is this
 -- project's own.
-use Rattle.std.specs.Prelude.{◌≡◌, ℕ, ◌⊎◌, ◌≤◌, IsSome, Some, None, List, [], ◌++◌, ◌∷◌, length, map}
-use Rattle.outside_traits.specs.Faults.{Rose}
+use Rattle.std.specs.Prelude.{◌≡◌, ℕ, ◌⊎◌, ◌≤◌, Some, None, List, [], ◌++◌, ◌∷◌, length, map}
 use Rattle.outside_traits.specs.States.{SourceState, SinkState}
 use Rattle.outside_traits.specs.Openings.{Opening, OutsideState, Wanted, MakesOpenings, log_visit, visited}
 use Rattle.outside_traits.specs.Openings.Wanted.{LogOf}
 use Rattle.file_reader.specs.Ends.{HasReadPrefix}
 use Rattle.tick_units.specs.declared.marks.Plan.{Plan}
-use Rattle.tick_units.specs.Log.{bad_line, bad_at_end}
-use Rattle.file_commands.specs.Effects.{Effect}
-use Rattle.file_commands.specs.Endings.{status_of, status_line, ending_at}
-use Rattle.file_commands.specs.Opening.{CannotOpen}
-use Rattle.file_commands.specs.Reading.{ReadsLines}
-use Rattle.file_commands.specs.Text.{log_text}
-use Rattle.sink_text.specs.Writing.{WritesAll, WritesPrefix}
-use Rattle.file_commands.specs.Writing.{Answers}
-use Rattle.file_commands.specs.declared.ending.status.Status.{Status}
-use Rattle.file_commands.specs.declared.ending.status.Status.TheVariants.{WriteFault}
-use Rattle.file_commands.specs.declared.ending.subject.Subject.TheVariants.{Feed}
+use Rattle.tick_units.specs.Log.{bad_line}
+use Rattle.command_ends.specs.Effects.{Effect}
+use Rattle.command_ends.specs.Endings.{status_of, status_line, ending_at}
+use Rattle.command_ends.specs.Opening.{CannotOpen}
+use Rattle.line_files.specs.GoodLogs.{IsGoodLog}
+use Rattle.line_files.specs.Reading.{ReadsLines}
+use Rattle.line_files.specs.Texts.{log_text}
+use Rattle.outside_traits.specs.Writing.{WritesAll, WritesPrefix}
+use Rattle.command_ends.specs.Writing.{Answers}
+use Rattle.command_ends.specs.declared.ending.status.Status.{Status}
+use Rattle.command_ends.specs.declared.ending.status.Status.TheVariants.{WriteFault}
+use Rattle.command_ends.specs.declared.ending.subject.Subject.TheVariants.{Feed}
 use Rattle.file_reader.specs.declared.log_end.LogEnd.{LogEnd}
-use Rattle.log_decoder.specs.Decoding.{most_of_a_log}
+use Rattle.radio_receiver.specs.Decoding.{most_of_a_log}
 
 -- the reading ended by itself: the lines of the answers are written, and then the status line; a write of it may fail
 pub record EndsByCause (plan : Plan) (file file_now : SourceState) (out out_now : SinkState) (result : Status) : Type 0 where
@@ -62,15 +62,6 @@ pub record OpensAndDecodes (plan : Plan) (name : List ℕ) (effect : Effect) : T
 -- the effects that `decode` may have
 abbrev pub RunsDecode : Plan → List ℕ → Effect → Type 0
 RunsDecode plan name effect = CannotOpen (needed_by_decode name) [] (LogOf name) (Feed 0) effect ⊎ OpensAndDecodes plan name effect
-
--- a log that has no fault, and that reported its bytes before and after
-pub record IsGoodLog (opened back : SourceState) : Type 0 where
-  pub text : List ℕ
-  pub reported : opened.left ≡ Some text
-  pub reports : IsSome back.left
-  pub no_fault : Rose opened.faults back.faults → ⊥
-  pub lines : bad_at_end text ≡ None
-  pub most : length text ≤ most_of_a_log
 
 -- such a log was opened and given back
 pub record HasGoodLog (name : List ℕ) (outside outside_now : OutsideState) : Type 0 where

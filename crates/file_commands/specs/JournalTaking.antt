@@ -1,7 +1,7 @@
 -- Scaffolding: the bytes that a converter of journals has taken, and the text that it has given for them.
 use Rattle.std.specs.Prelude.{ℕ, ◌≤◌, Option, List}
 use Rattle.station_values.specs.Station.{StationFields, settings_of}
-use Rattle.file_commands.specs.LineTaking.{IsTakenBy, LineTaker, LineWay, file_says, line_taker}
+use Rattle.line_files.specs.LineTaking.{IsTakenBy, LineTaker, LineWay, file_says, line_taker}
 use Rattle.file_commands.specs.Migrating.{journal_of}
 use Rattle.file_commands.specs.Moving.{HasMoved, MoverFields}
 use Rattle.file_commands.specs.declared.migrate.mover.JournalMover.{JournalMover}

@@ -1,26 +1,25 @@
 -- The command `migrate`: it reads a journal of either form and writes it in the second form, with the numbers and rates that a
 -- station gives. All of it is this project's own.
-use Rattle.std.specs.Prelude.{◌≡◌, ℕ, ◌+◌, ◌<◌, ◌^◌, ◌==◌, List, [], ◌∷◌, ◌++◌, codes, length, map, if◌then◌else◌}
-use Rattle.std.specs.List.{flat_map}
+use Rattle.std.specs.Prelude.{◌≡◌, ℕ, ◌+◌, ◌<◌, ◌^◌, ◌==◌, List, [], ◌∷◌, length, map, if◌then◌else◌}
 use Rattle.outside_traits.specs.Openings.{OutsideState}
 use Rattle.journal_entry.specs.Valid.{IsValid}
 use Rattle.journal_entry.specs.Lines.{IsLineText, entry_of, form_of}
-use Rattle.journal_entry.specs.Numbers.{numbered_text}
 use Rattle.journal_entry.specs.declared.entry.Entry.{Entry}
 use Rattle.journal_entry.specs.declared.line.JournalLine.{JournalLine}
 use Rattle.journal_entry.specs.declared.line.JournalLine.TheVariants.{Bare, Numbered}
 use Rattle.journal_entry.specs.declared.numbered.Numbered.{Numbered as NumberedEntry}
-use Rattle.line_cutter.specs.Items.{Saying}
+use Rattle.line_files.specs.Items.{Saying}
+use Rattle.line_files.specs.Texts.{journal_text}
 use Rattle.station_values.specs.Station.{StationFields, settings_of}
-use Rattle.system_fold.specs.Numbered.{numbered, numbered_next}
+use Rattle.system_fold.specs.Numbered.{numbered_next}
 use Rattle.system_fold.specs.Page.{page_of}
 use Rattle.system_fold.specs.Settings.{SettingsFields}
-use Rattle.file_commands.specs.Effects.{Effect}
-use Rattle.file_commands.specs.Endings.{ending_at}
-use Rattle.file_commands.specs.LineFiles.{LineFile, RunsAgainst, HasGoodFile}
-use Rattle.file_commands.specs.declared.ending.Ending.{Ending}
-use Rattle.file_commands.specs.declared.ending.Ending.TheVariants.{Full}
-use Rattle.file_commands.specs.declared.ending.subject.Subject.TheVariants.{Journal}
+use Rattle.command_ends.specs.Effects.{Effect}
+use Rattle.command_ends.specs.Endings.{ending_at}
+use Rattle.line_files.specs.LineFiles.{LineFile, RunsAgainst, HasGoodFile}
+use Rattle.command_ends.specs.declared.ending.Ending.{Ending}
+use Rattle.command_ends.specs.declared.ending.Ending.TheVariants.{Full}
+use Rattle.command_ends.specs.declared.ending.subject.Subject.TheVariants.{Journal}
 use Rattle.file_reader.specs.declared.log_end.LogEnd.{LogEnd}
 use Rattle.file_reader.specs.declared.log_end.LogEnd.TheVariants as log
 
@@ -60,10 +59,6 @@ says_line settings before text line = IsLineText text line × MayStand settings 
 -- a line is too long at its 300th byte; after the last that there may be, at its first
 abbrev pub journal_line_limit : ℕ → ℕ
 journal_line_limit lines = if lines == most_lines then 1 else 300
-
--- the lines of a journal in the second form
-abbrev pub journal_text : SettingsFields → List Entry → List ℕ
-journal_text settings entries = flat_map (λ n. numbered_text n ++ codes "\n") (numbered settings entries)
 
 -- how a command ends that has converted the lines so far: bytes after the last line that there may be are reported as a full
 -- journal

@@ -11,7 +11,7 @@ use Rattle.system_fold.specs.KeptFold.{FoldFields, StandsForJournal}
 use Rattle.system_fold.specs.Numbered.{numbered_next}
 use Rattle.system_fold.specs.Page.{page_of}
 use Rattle.system_fold.specs.Settings.{SettingsFields}
-use Rattle.file_commands.specs.LineTaking.{LineTexts}
+use Rattle.line_files.specs.LineTaking.{LineTexts}
 use Rattle.file_commands.specs.Migrating.{MayStand, entries_of, says_line}
 
 -- the fold of the entries taken, the page after the last that was converted, the form of the lines, and the number of feeds

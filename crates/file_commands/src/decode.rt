@@ -1,73 +1,16 @@
 //! `decode`: decodes a log, and writes a line for each entry that is due to it.
 ghost use Rattle.std.specs.Prelude.{◌≡◌};
 ghost use Rattle.file_commands.specs.Decoding.{Decodes, RunsDecode};
-ghost use Rattle.file_commands.specs.Effects.{effect_of};
-ghost use Rattle.file_commands.specs.LogTaking.{IsFound};
-ghost use Rattle.file_commands.specs.Reports.{Reports, status_in};
+ghost use Rattle.command_ends.specs.Effects.{effect_of};
+ghost use Rattle.command_ends.specs.Reports.{Reports, status_in};
 ghost use Rattle.radio_receiver.specs.Histories.{blank_of};
-ghost use Rattle.file_commands.specs.Taking.{Fits};
 ghost use Rattle.tick_units.specs.declared.marks.Plan.{Plan};
 
-use crate::ending::Ending;
-use crate::ending::subject::Subject;
-use crate::ending::writing::finish;
-use crate::lines::write_entry_line;
-use crate::outcome::{Known, Outcome};
-use crate::reading::{Gives, Line, Taker, ending_at, read_lines};
-use crate::report::Report;
-use file_reader::LogEnd;
-use journal_entry::Entry;
-use log_decoder::{LOG_LIMIT, LogDecoder};
+use command_ends::{Ending, Known, Outcome, Report, Subject, finish};
+use line_files::{ending_at, read_lines};
 use outside_traits::{Failed, Outside, Sink, Source};
-use pulse_log::{BadLine, Taken};
-use radio_receiver::{DcfReceiver, MsfReceiver, Receiver, WwvbReceiver};
+use radio_receiver::{DcfReceiver, LOG_LIMIT, LogDecoder, MsfReceiver, Receiver, WwvbReceiver};
 use tick_units::Plan;
-
-// What a decoder found: the length of an entry's line, which is then the beginning of `line`, nothing, or a bad line.
-fn give_found(found: Result<Option<Entry>, BadLine>, line: &mut Line) -> Gives
-    ensures fits { Fits result }
-    ensures gives { IsFound found result line.new }
-{
-    match found {
-        Ok(None) => Ok(None),
-        Ok(Some(entry)) => Ok(Some(write_entry_line(&entry, line))),
-        Err(bad) => Err(bad),
-    }
-}
-
-impl<R: Receiver> Taker for LogDecoder<R> {
-    ghost use Rattle.std.specs.Prelude.{◌^◌};
-    ghost use Rattle.log_decoder.specs.Decoding.{IsReady};
-    ghost use Rattle.file_commands.specs.LogTaking.{IsDecodedBy, log_says};
-    ghost use Rattle.tick_units.specs.declared.marks.Plan.{Plan};
-
-    ghost Case = { Plan };
-
-    ghost says = { log_says };
-
-    ghost holds = { λ decoder plan. IsDecodedBy R.stands_for decoder plan };
-
-    ghost is_ready = { λ decoder. IsReady R.least_start decoder };
-
-    ghost room = { λ decoder. 2 ^ 64 };
-
-    fn take(&mut self, bytes: &[u8], line: &mut Line) -> Taken<Gives> {
-        let step = self.next_entry(bytes);
-        Taken {
-            count: step.count,
-            found: give_found(step.found, line),
-        }
-    }
-
-    fn at_end(&self) -> LogEnd {
-        match self.finish() {
-            Ok(()) => LogEnd::Whole,
-            Err(bad) => LogEnd::BadLine { line: bad.line },
-        }
-    }
-
-    ghost held_says = { λ decoder plan bytes text held. held.text_is };
-}
 
 // Decodes a log with a blank receiver, and writes the lines of its entries and the status line.
 fn decode_with<S: Source, R: Receiver, K: Sink>(log: &mut S, receiver: R, out: &mut K) -> Report

@@ -1,30 +1,26 @@
 //! `migrate`: reads a journal of either form against a station, line by line, and writes it in the second form.
 ghost use Rattle.std.specs.Prelude.{◌≡◌, ◌⊎◌, [], None, IfOk, MatchResult};
 ghost use Rattle.file_reader.specs.declared.reader.FileEnd.TheVariants.{Whole};
-ghost use Rattle.file_commands.specs.Effects.{effect_of};
-ghost use Rattle.file_commands.specs.Keeping.{TriesFile};
-ghost use Rattle.file_commands.specs.LineFiles.{RunsThrough};
+ghost use Rattle.command_ends.specs.Effects.{effect_of};
+ghost use Rattle.line_files.specs.Keeping.{TriesFile};
+ghost use Rattle.line_files.specs.LineFiles.{RunsThrough};
 ghost use Rattle.file_commands.specs.Migrating.{RunsMigrate, journal_of, migrate_ending};
 ghost use Rattle.file_commands.specs.JournalTaking.{IsEven, IsMovedBy};
-ghost use Rattle.file_commands.specs.Reports.{Reports, status_in};
-ghost use Rattle.file_commands.specs.Unopened.{Lacks};
-ghost use Rattle.file_commands.specs.StationFile.{IsObstacle};
+ghost use Rattle.command_ends.specs.Reports.{Reports, status_in};
+ghost use Rattle.command_ends.specs.Unopened.{Lacks};
+ghost use Rattle.command_ends.specs.StationFile.{IsObstacle};
 ghost use Rattle.station_reader.specs.Faults.{Says};
 ghost use Rattle.station_values.specs.Station.{StationFields};
 
 mod lines;
 mod mover;
 
-use crate::ending::Ending;
-use crate::ending::page::finish_page;
-use crate::ending::subject::Subject;
-use crate::ending::writing::finish;
-use crate::outcome::{Known, Outcome};
-use crate::reading::{ending_at, read_lines};
-use crate::report::Report;
-use crate::station_file::obstacle::{Obstacle, finish_at};
-use crate::station_file::{STATION_LIMIT, judge, open_station};
+use command_ends::{
+    Ending, Known, Obstacle, Outcome, Report, STATION_LIMIT, Subject, finish, finish_at,
+    finish_page, judge, open_station,
+};
 use file_reader::{FileEnd, LogEnd};
+use line_files::{ending_at, read_lines};
 use lines::Mover;
 use mover::{JournalMover, MOST_LINES};
 use outside_traits::{Failed, Outside, Sink, Source};

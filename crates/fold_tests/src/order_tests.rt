@@ -1,7 +1,7 @@
 //! Journals with and without a leap second.
 use crate::shared::same;
+use drill_day::names_no_leap;
 use journal_entry::read_entry;
-use journal_orders::names_no_leap;
 use std::alloc::Global;
 use std::process::Abort;
 

@@ -3,3 +3,4 @@ pub mod FaultLaws
 pub mod ManyOutLaws
 pub mod OpeningLaws
 pub mod StateLaws
+pub mod WritingLaws

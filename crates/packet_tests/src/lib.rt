@@ -23,6 +23,6 @@ mod poll_figure_tests;
 #[cfg(test)]
 mod reply_core_tests;
 #[cfg(test)]
-mod sealed_reply_tests;
+mod sealing_tests;
 #[cfg(test)]
 mod shared;

@@ -4,7 +4,7 @@ use crate::shared::same;
 use journal_entry::LINE_ROOM;
 use memory_outside::REQUEST_DIGITS;
 use packet_auth::KeyRing;
-use script_player::{Outcome, write_outcome};
+use replay_command::{Outcome, write_outcome};
 use sealed_reply::sealed_like;
 use std::alloc::Global;
 use std::process::Abort;

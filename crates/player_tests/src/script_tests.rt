@@ -1,16 +1,16 @@
 // What lines give after the lines before them, and the page that is kept of them.
 ghost use Rattle.std.specs.Prelude.{◌≡◌, ◌≤◌, ◌^◌};
-ghost use Rattle.receiver_rack.specs.Racks.{IsRack};
-ghost use Rattle.script_player.specs.KeptPlayer.{IsReady};
+ghost use Rattle.station_gear.specs.Racks.{IsRack};
+ghost use Rattle.replay_command.specs.KeptPlayer.{IsReady};
 
 use crate::shared::same;
 use clock_page::Page;
 use journal_entry::LINE_ROOM;
 use memory_outside::{NOON, REQUEST_DIGITS};
 use radio_receiver::{DcfReceiver, MsfReceiver, Receiver, WwvbReceiver};
-use receiver_rack::put_in_rack;
+use replay_command::{BoxedReceiver, Invalid, Outcome, Player, write_outcome};
 use script_line::read_line;
-use script_player::{BoxedReceiver, Invalid, Outcome, Player, write_outcome};
+use station_gear::put_in_rack;
 use station_reader::read_station;
 use station_values::Station;
 use std::alloc::{AllocError, Global};

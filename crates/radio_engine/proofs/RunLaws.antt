@@ -6,21 +6,22 @@ use Rattle.command_words.specs.Commands.Asked.{decode, drill, migrate, replay, s
 use Rattle.outside_traits.specs.Faults.{Rose}
 use Rattle.outside_traits.specs.States.{SinkState}
 use Rattle.outside_traits.specs.Openings.{Opening, OutsideState, log_visit, visited}
-use Rattle.file_commands.specs.Effects.{Effect}
-use Rattle.file_commands.specs.Unopened.{Lacks}
+use Rattle.command_ends.specs.Effects.{Effect}
+use Rattle.command_ends.specs.Unopened.{Lacks}
 use Rattle.radio_engine.specs.Run.{Runs, IsComplete, IsFaultless, IsRun, orders_of}
-use Rattle.file_commands.specs.Writing.{Answers}
-use Rattle.file_commands.specs.declared.ending.status.Status.{Status}
-use Rattle.file_commands.specs.declared.ending.status.Status.TheVariants.{Done, Memory}
-use Rattle.file_commands.proofs.GoodLogLaws.{log_done, rose_by_one}
+use Rattle.command_ends.specs.Writing.{Answers}
+use Rattle.command_ends.specs.declared.ending.status.Status.{Status}
+use Rattle.command_ends.specs.declared.ending.status.Status.TheVariants.{Done, Memory}
+use Rattle.file_commands.proofs.GoodLogLaws.{log_done}
+use Rattle.line_files.proofs.PrefixLaws.{rose_by_one}
 use Rattle.station_report.proofs.GoodStationLaws.{station_done}
-use Rattle.file_commands.proofs.LineFileLaws.{IsReadable, against_done, one_way}
+use Rattle.line_files.proofs.LineFileLaws.{IsReadable, against_done, one_way}
 use Rattle.replay_command.proofs.ScriptLaws.{script_readable}
 use Rattle.file_commands.proofs.MovingLaws.{one_line, short_line}
 use Rattle.file_commands.specs.Migrating.{journal_of}
 use Rattle.replay_command.specs.Replaying.{script_of}
 use Rattle.station_values.specs.Station.{settings_of}
-use Rattle.file_commands.specs.declared.ending.subject.Subject.TheVariants.{Journal, Script}
+use Rattle.command_ends.specs.declared.ending.subject.Subject.TheVariants.{Journal, Script}
 use Rattle.station_values.specs.Station.{StationFields}
 
 -- where no write failed, the status is the one that was due

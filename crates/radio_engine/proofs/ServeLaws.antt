@@ -5,8 +5,8 @@ use Rattle.outside_traits.specs.ManyOut.{AreOut, GivesAllBack}
 use Rattle.outside_traits.specs.Openings.{OutsideState}
 use Rattle.outside_traits.specs.States.{LinkState, SourceState}
 use Rattle.station_values.specs.Station.{StationFields, leap_feed}
-use Rattle.crew_work.specs.Served.{Sights, seen, sights_of}
-use Rattle.crew_work.specs.declared.work.Orders.{Orders}
+use Rattle.feed_workers.specs.Served.{Sights, seen, sights_of}
+use Rattle.feed_workers.specs.declared.crew.Orders.{Orders}
 use Rattle.station_crew.specs.declared.crew.Ended.{Ended}
 use Rattle.station_gear.specs.Gears.{numbers_of, states_of, wanted_by}
 use Rattle.station_gear.specs.Opens.{IsWhole, OpensAll}
@@ -16,7 +16,7 @@ use Rattle.station_report.specs.Crewing.{CannotServe, LeavesAll, ServesAll}
 use Rattle.station_report.specs.declared.done.Done.{Done}
 use Rattle.station_report.proofs.RunOfLaws.{leaps_run}
 use Rattle.station_report.proofs.ServingLaws as serving
-use Rattle.file_commands.specs.declared.ending.Ending.TheVariants.{NoMemory}
+use Rattle.command_ends.specs.declared.ending.Ending.TheVariants.{NoMemory}
 
 -- what a crew leaves, but for its logs and links
 abbrev pub done_of : {L T : Type 0} → Ended L T → Done

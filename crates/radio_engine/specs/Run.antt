@@ -4,16 +4,16 @@ use Rattle.command_words.specs.Commands.{Asked, AskFor}
 use Rattle.command_words.specs.Commands.Asked.{decode, drill, migrate, replay, serve}
 use Rattle.outside_traits.specs.Faults.{Rose}
 use Rattle.outside_traits.specs.Openings.{OutsideState}
-use Rattle.crew_work.specs.declared.work.Orders.{Orders}
+use Rattle.feed_workers.specs.declared.crew.Orders.{Orders}
 use Rattle.file_commands.specs.Decoding.{RunsDecode, HasGoodLog}
-use Rattle.file_commands.specs.Effects.{Effect}
+use Rattle.command_ends.specs.Effects.{Effect}
 use Rattle.station_report.specs.Drilling.{Drills}
 use Rattle.file_commands.specs.Migrating.{RunsMigrate, HasGoodJournal}
 use Rattle.replay_command.specs.Replaying.{RunsReplay, HasGoodScript}
 use Rattle.station_report.specs.Serving.{RunsServe, HasGoodStation}
-use Rattle.file_commands.specs.Unopened.{Refuses, Lacks}
-use Rattle.file_commands.specs.declared.ending.status.Status.{Status}
-use Rattle.file_commands.specs.declared.ending.status.Status.TheVariants.{Done, Memory}
+use Rattle.command_ends.specs.Unopened.{Refuses, Lacks}
+use Rattle.command_ends.specs.declared.ending.status.Status.{Status}
+use Rattle.command_ends.specs.declared.ending.status.Status.TheVariants.{Done, Memory}
 
 -- what is asked of a station: the most entries of its journal, and the hearings of each link while its feeds run and after
 abbrev pub orders_of : (during after limit : ℕ) → Orders

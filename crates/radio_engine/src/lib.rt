@@ -5,6 +5,6 @@ mod drill;
 mod run;
 mod serve;
 
-pub use file_commands::{Outcome, Status};
+pub use command_ends::{Outcome, Status};
 pub use run::{end_without_memory, run_station, run_to_outcome};
 pub use station_report::write_link_line;

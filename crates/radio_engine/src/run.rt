@@ -2,19 +2,20 @@
 ghost use Rattle.std.specs.Prelude.{◌≡◌, ◌⊎◌, false, map};
 ghost use Rattle.command_words.specs.Commands.{Asked, AskFor};
 ghost use Rattle.outside_traits.specs.Faults.{Rose};
-ghost use Rattle.file_commands.specs.Effects.{effect_of};
-ghost use Rattle.file_commands.specs.Endings.{status_of, status_line};
+ghost use Rattle.command_ends.specs.Effects.{effect_of};
+ghost use Rattle.command_ends.specs.Endings.{status_of, status_line};
 ghost use Rattle.radio_engine.specs.Run.{Runs, IsComplete, IsFaultless};
-ghost use Rattle.file_commands.specs.Reports.{Reports, status_in};
-ghost use Rattle.file_commands.specs.Unopened.{Refuses, Lacks};
-ghost use Rattle.file_commands.specs.Writing.{Answers};
-ghost use Rattle.file_commands.specs.declared.ending.Ending.TheVariants.{NoMemory};
-ghost use Rattle.receiver_rack.specs.Racks.{IsRack};
+ghost use Rattle.command_ends.specs.Reports.{Reports, status_in};
+ghost use Rattle.command_ends.specs.Unopened.{Refuses, Lacks};
+ghost use Rattle.command_ends.specs.Writing.{Answers};
+ghost use Rattle.command_ends.specs.declared.ending.Ending.TheVariants.{NoMemory};
+ghost use Rattle.station_gear.specs.Racks.{IsRack};
 
 use crate::drill::run_drill;
 use crate::serve::run_serve;
+use command_ends::{Ending, Known, Outcome, Status, finish};
 use command_words::{Command, WordsFault, read_words};
-use file_commands::{Ending, Known, Outcome, Status, finish, open_and_decode, run_migrate};
+use file_commands::{open_and_decode, run_migrate};
 use outside_traits::{Outside, Sink};
 use radio_receiver::Receiver;
 use replay_command::run_replay;

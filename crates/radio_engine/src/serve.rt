@@ -1,22 +1,21 @@
 //! `serve`: serves a station, and then writes its journal, how its links ended, and the page of the journal.
 ghost use Rattle.std.specs.Prelude.{◌≡◌, ◌<◌, ◌≤◌, ◌⊎◌, IfOk, false};
 ghost use Rattle.station_report.specs.Crewing.{TriesServe, subject_of};
-ghost use Rattle.file_commands.specs.Effects.{effect_of};
-ghost use Rattle.file_commands.specs.Reports.{Reports, status_in};
-ghost use Rattle.file_commands.specs.Unopened.{Lacks};
+ghost use Rattle.command_ends.specs.Effects.{effect_of};
+ghost use Rattle.command_ends.specs.Reports.{Reports, status_in};
+ghost use Rattle.command_ends.specs.Unopened.{Lacks};
 ghost use Rattle.station_report.specs.Serving.{RunsServe};
-ghost use Rattle.receiver_rack.specs.Racks.{IsRack};
-ghost use Rattle.crew_work.specs.Served.{AreBlank};
+ghost use Rattle.station_gear.specs.Racks.{IsRack};
+ghost use Rattle.feed_workers.specs.Served.{AreBlank};
 ghost use Rattle.station_gear.specs.Gears.{IsEmptyFor};
 
-use file_commands::{
+use command_ends::{
     Ending, Known, Outcome, STATION_LIMIT, Subject, finish, finish_at, judge, open_station,
 };
 use outside_traits::{Outside, Sink};
 use radio_receiver::{BoxedReceiver, Receiver};
-use receiver_rack::fit_radios;
 use station_crew::{Ended, Equipment, Orders, serve_station};
-use station_gear::{Gear, Missing, give_back_gear, open_gear};
+use station_gear::{Gear, Missing, fit_radios, give_back_gear, open_gear};
 use station_report::{Done, finish_served, leap_feed};
 use station_values::Station;
 use std::alloc::{AllocError, Global};

@@ -6,22 +6,23 @@
 ghost use Rattle.std.specs.Prelude.{◌≡◌, MatchResult, false, map};
 ghost use Rattle.std.specs.Process.{exit_status};
 ghost use Rattle.std.specs.String.{string_bytes};
-ghost use Rattle.file_commands.specs.Effects.{effect_of};
-ghost use Rattle.file_commands.specs.Endings.{number_of, status_of, status_line};
-ghost use Rattle.file_commands.specs.Reports.{Reports, status_in};
+ghost use Rattle.command_ends.specs.Effects.{effect_of};
+ghost use Rattle.command_ends.specs.Endings.{number_of, status_of, status_line};
+ghost use Rattle.command_ends.specs.Reports.{Reports, status_in};
 ghost use Rattle.radio_engine.specs.Run.{IsRun};
-ghost use Rattle.file_commands.specs.Writing.{Answers};
-ghost use Rattle.file_commands.specs.declared.ending.Ending.TheVariants.{NoMemory};
+ghost use Rattle.command_ends.specs.Writing.{Answers};
+ghost use Rattle.command_ends.specs.declared.ending.Ending.TheVariants.{NoMemory};
 
-use host_arguments::{arguments_of, texts_of};
+mod arguments;
+
+use arguments::{arguments_of, texts_of};
 use host_links::{HostOutside, StreamSink};
 use outside_traits::{Outside, Sink};
 use radio_engine::{Outcome, end_without_memory, run_to_outcome};
 use radio_receiver::{DcfReceiver, MsfReceiver, Receiver, WwvbReceiver};
-use receiver_rack::put_in_rack;
-use run_report::{write_beginning, write_report};
 use service_links::{ServiceOutside, handed_over, write_reason};
-use standard_error::Watched;
+use standard_error::{Watched, write_beginning, write_report};
+use station_gear::put_in_rack;
 use std::alloc::{AllocError, Global};
 use std::fs::{self, Files};
 use std::io::IsTerminal;
@@ -37,17 +38,17 @@ fn main(rt: HostRuntime) -> ExitCode {
     let mut out = StreamSink::new(Watched::new(io::writer(&rt)));
     let all = env::args(&rt);
     let are_text = all.is_ok();
-    let words = arguments_of(rt.alloc(), all);
+    let arguments = arguments_of(rt.alloc(), all);
     if rt.stderr().is_terminal() {
-        write_beginning(&rt, &words);
+        write_beginning(&rt, &arguments);
     }
     if let Some(handed) = handed_over(&rt, process::id(rt.process())) {
         let mut outside = ServiceOutside::new(&rt, &handed);
-        let ended = run_program(&rt, rt.alloc(), &words, &mut outside, &mut out);
+        let ended = run_program(&rt, rt.alloc(), &arguments, &mut outside, &mut out);
         let minutes = out.stream().minutes();
         write_report(
             &rt,
-            &words,
+            &arguments,
             are_text,
             ended.outcome,
             outside.refusal(),
@@ -57,11 +58,11 @@ fn main(rt: HostRuntime) -> ExitCode {
         return ended.code;
     }
     let mut outside = HostOutside::new(&rt);
-    let ended = run_program(&rt, rt.alloc(), &words, &mut outside, &mut out);
+    let ended = run_program(&rt, rt.alloc(), &arguments, &mut outside, &mut out);
     let minutes = out.stream().minutes();
     write_report(
         &rt,
-        &words,
+        &arguments,
         are_text,
         ended.outcome,
         outside.refusal(),
@@ -81,20 +82,20 @@ struct Ended {
 fn run_program<R: Threads + Wait + Sync, O: Outside, K: Sink>(
     rt: &R,
     alloc: Global,
-    words: &Result<Vec<String>, AllocError>,
+    arguments: &Result<Vec<String>, AllocError>,
     outside: &mut O,
     out: &mut K,
 ) -> Ended
     requires { O.gate_out outside.old ≡ false }
     ensures code { exit_status result.code ≡ number_of (status_in result.outcome.report) }
-    ensures run { MatchResult words.now
-        (λ w. IsRun (map (λ t. string_bytes t) w.items) (effect_of (O.state outside.old) (O.state outside.new)
+    ensures run { MatchResult arguments.now
+        (λ a. IsRun (map (λ t. string_bytes t) a.items) (effect_of (O.state outside.old) (O.state outside.new)
         (K.state out.old) (K.state out.new) (status_in result.outcome.report)))
         (λ _. Answers (status_of NoMemory) (status_in result.outcome.report) (K.state out.old) (K.state out.new)
         (status_line NoMemory) × (O.state outside.new ≡ O.state outside.old)) }
     ensures reports { Reports result.outcome.report (K.state out.old) (K.state out.new) }
 {
-    let outcome = run_given(rt, alloc, words, outside, out);
+    let outcome = run_given(rt, alloc, arguments, outside, out);
     Ended {
         code: exit_code(&outcome),
         outcome,
@@ -113,22 +114,22 @@ fn exit_code(outcome: &Outcome) -> ExitCode
 fn run_given<R: Threads + Wait + Sync, O: Outside, K: Sink>(
     rt: &R,
     alloc: Global,
-    words: &Result<Vec<String>, AllocError>,
+    arguments: &Result<Vec<String>, AllocError>,
     outside: &mut O,
     out: &mut K,
 ) -> Outcome
     requires { O.gate_out outside.old ≡ false }
-    ensures run { MatchResult words.now
-        (λ w. IsRun (map (λ t. string_bytes t) w.items) (effect_of (O.state outside.old) (O.state outside.new)
+    ensures run { MatchResult arguments.now
+        (λ a. IsRun (map (λ t. string_bytes t) a.items) (effect_of (O.state outside.old) (O.state outside.new)
         (K.state out.old) (K.state out.new) (status_in result.report)))
         (λ _. Answers (status_of NoMemory) (status_in result.report) (K.state out.old) (K.state out.new)
         (status_line NoMemory) × (O.state outside.new ≡ O.state outside.old)) }
     ensures reports { Reports result.report (K.state out.old) (K.state out.new) }
 {
-    let Ok(words) = words else {
+    let Ok(arguments) = arguments else {
         return end_without_memory(out);
     };
-    match run_words(rt, alloc, words.as_slice(), outside, out) {
+    match run_arguments(rt, alloc, arguments.as_slice(), outside, out) {
         Ok(outcome) => outcome,
         Err(AllocError) => end_without_memory(out),
     }
@@ -161,21 +162,21 @@ const OF_A_PLAN: usize = 4;
 
 // Runs the command that arguments ask for, with four receivers of each plan. Where there is not enough memory for the texts of the
 // arguments and the receivers, it does nothing.
-fn run_words<R: Threads + Wait + Sync, O: Outside, K: Sink>(
+fn run_arguments<R: Threads + Wait + Sync, O: Outside, K: Sink>(
     rt: &R,
     alloc: Global,
-    words: &[String],
+    arguments: &[String],
     outside: &mut O,
     out: &mut K,
 ) -> Result<Outcome, AllocError>
     requires { O.gate_out outside.old ≡ false }
     ensures { MatchResult result
-        (λ outcome. IsRun (map (λ w. string_bytes w) words.now)
+        (λ outcome. IsRun (map (λ a. string_bytes a) arguments.now)
         (effect_of (O.state outside.old) (O.state outside.new) (K.state out.old) (K.state out.new) (status_in outcome.report))
         × Reports outcome.report (K.state out.old) (K.state out.new))
         (λ _. (O.state outside.new ≡ O.state outside.old) × (K.state out.new ≡ K.state out.old)) }
 {
-    let texts = texts_of(alloc, words)?;
+    let texts = texts_of(alloc, arguments)?;
     let mut rack: Vec<Box<dyn Receiver + Send>> = Vec::new(alloc);
     for _ in 0..OF_A_PLAN {
         put_in_rack(&mut rack, Box::new(alloc, DcfReceiver::new())?, Plan::Dcf)?;

@@ -1,14 +1,14 @@
 -- What a player of a script's bytes stands for, with more bytes.
 use Rattle.std.proofs.Common.{◌≡◌, ℕ, ◌+◌, Some, Ok, List, [], ◌∷◌, ◌++◌, take, ap, sym, ◌∙◌}
 use Rattle.radio_receiver.specs.Histories.{History}
-use Rattle.script_player.specs.KeptPlayer.{HasPlayed}
-use Rattle.script_player.specs.Replay.{Played, ReplayCase, outcome}
-use Rattle.script_player.specs.Texts.{outcome_text, replay_text}
-use Rattle.file_commands.specs.LineTaking.{LineTexts, TakesLine}
+use Rattle.replay_command.specs.KeptPlayer.{HasPlayed}
+use Rattle.replay_command.specs.Replay.{Played, ReplayCase, outcome}
+use Rattle.replay_command.specs.Texts.{outcome_text, replay_text}
+use Rattle.line_files.specs.LineTaking.{LineTexts, TakesLine}
 use Rattle.replay_command.specs.Playing.{script_taker, script_way}
 use Rattle.replay_command.specs.Script.{says_played}
 use Rattle.replay_command.specs.declared.replay.replayer.Replayer.{Replayer}
-use Rattle.script_player.proofs.ReplayLaws.{replay_push}
+use Rattle.replay_command.proofs.ReplayLaws.{replay_push}
 
 -- a line that was played adds its own text
 pub played_line : {B : Type 0} (stands : B → History → Type 0) (r : Replayer B) (of : ReplayCase) (count : ℕ) (before : List Played) (line : LineTexts) (size : ℕ) (played : Played) →

@@ -2,17 +2,17 @@
 use Rattle.std.proofs.Common.{◌≡◌, ℕ, ◌<◌, ◌+◌, true, inl, inr, Option, Some, None, List, [], ◌∷◌, ◌++◌, length, ap, sym, subst, ◌∙◌, arith}
 use Rattle.std.specs.Prelude.{nat_le, if◌then◌else◌}
 use Rattle.std.proofs.lemmas.List.{length-map}
-use Rattle.line_cutter.proofs.ItemLaws.{one_reading}
-use Rattle.line_cutter.specs.Items.{AreItems, HasItems, IsBad, IsFirstBad}
+use Rattle.line_files.proofs.ItemLaws.{one_reading}
+use Rattle.line_files.specs.Items.{AreItems, HasItems, IsBad, IsFirstBad}
 use Rattle.script_line.proofs.LineLaws.{one_line, short_line}
 use Rattle.script_line.specs.declared.line.ScriptLine.{ScriptLine}
-use Rattle.script_player.proofs.ReplayLaws.{lines_push, may_be_kept}
-use Rattle.script_player.specs.Replay.{Played, is_full, lines_of, played_so}
+use Rattle.replay_command.proofs.ReplayLaws.{lines_push, may_be_kept}
+use Rattle.replay_command.specs.Replay.{Played, is_full, lines_of, played_so}
 use Rattle.station_values.specs.Station.{StationFields}
 use Rattle.tick_units.specs.Log.{lines_of as lines_of_bytes}
 use Rattle.replay_command.specs.Replaying.{replay_ending, script_of}
 use Rattle.replay_command.specs.Script.{says_line, says_played, script_line_limit}
-use Rattle.file_commands.proofs.LineFileLaws.{IsReadable}
+use Rattle.line_files.proofs.LineFileLaws.{IsReadable}
 
 pub some_line : (a b : ScriptLine) → ◌≡◌ {A = Option ScriptLine} (Some a) (Some b) → a ≡ b
 some_line a b e = cc

@@ -1,12 +1,12 @@
 -- Scaffolding: the bytes of a script that were played, and the text that was given for them.
 use Rattle.std.specs.Prelude.{◌≡◌, ℕ, Option, Result, Ok, Err, List, [], ◌∷◌, ◌++◌, take}
 use Rattle.radio_receiver.specs.Histories.{History}
-use Rattle.script_player.specs.Replay.{Played, ReplayCase, outcome}
-use Rattle.script_player.specs.KeptPlayer.{HasPlayed}
-use Rattle.script_player.specs.Texts.{outcome_text}
-use Rattle.script_player.specs.declared.outcome.Invalid.{Invalid}
-use Rattle.script_player.specs.declared.player.Player.{Player}
-use Rattle.file_commands.specs.LineTaking.{IsTakenBy, LineTaker, LineTexts, LineWay, file_says, line_taker}
+use Rattle.replay_command.specs.Replay.{Played, ReplayCase, outcome}
+use Rattle.replay_command.specs.KeptPlayer.{HasPlayed}
+use Rattle.replay_command.specs.Texts.{outcome_text}
+use Rattle.replay_command.specs.declared.outcome.Invalid.{Invalid}
+use Rattle.replay_command.specs.declared.player.Player.{Player}
+use Rattle.line_files.specs.LineTaking.{IsTakenBy, LineTaker, LineTexts, LineWay, file_says, line_taker}
 use Rattle.replay_command.specs.Replaying.{script_of}
 use Rattle.replay_command.specs.Script.{says_played}
 use Rattle.replay_command.specs.declared.replay.replayer.Replayer.{Replayer}

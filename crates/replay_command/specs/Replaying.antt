@@ -2,16 +2,16 @@
 use Rattle.std.specs.Prelude.{ℕ, ◌^◌, Bool, true, false, List}
 use Rattle.outside_traits.specs.Openings.{OutsideState}
 use Rattle.file_reader.specs.declared.reader.FileEnd.TheVariants.{Whole, Fault, TooLong}
-use Rattle.script_player.specs.Replay.{Played, is_full, lines_of, page_after}
-use Rattle.script_player.specs.Texts.{replay_text}
+use Rattle.replay_command.specs.Replay.{Played, is_full, lines_of, page_after}
+use Rattle.replay_command.specs.Texts.{replay_text}
 use Rattle.station_values.specs.Station.{StationFields}
-use Rattle.file_commands.specs.Effects.{Effect}
-use Rattle.file_commands.specs.Endings.{ending_at}
-use Rattle.file_commands.specs.LineFiles.{LineFile, RunsAgainst, HasGoodFile}
+use Rattle.command_ends.specs.Effects.{Effect}
+use Rattle.command_ends.specs.Endings.{ending_at}
+use Rattle.line_files.specs.LineFiles.{LineFile, RunsAgainst, HasGoodFile}
 use Rattle.replay_command.specs.Script.{says_played, script_line_limit}
-use Rattle.file_commands.specs.declared.ending.Ending.{Ending}
-use Rattle.file_commands.specs.declared.ending.Ending.TheVariants.{Full}
-use Rattle.file_commands.specs.declared.ending.subject.Subject.TheVariants.{Script}
+use Rattle.command_ends.specs.declared.ending.Ending.{Ending}
+use Rattle.command_ends.specs.declared.ending.Ending.TheVariants.{Full}
+use Rattle.command_ends.specs.declared.ending.subject.Subject.TheVariants.{Script}
 use Rattle.file_reader.specs.declared.log_end.LogEnd.{LogEnd}
 use Rattle.file_reader.specs.declared.log_end.LogEnd.TheVariants as log
 

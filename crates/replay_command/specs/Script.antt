@@ -1,9 +1,9 @@
 -- The lines of a replay script, up to the first bad one.
 use Rattle.std.specs.Prelude.{◌≡◌, ℕ, true}
-use Rattle.line_cutter.specs.Items.{Saying}
+use Rattle.line_files.specs.Items.{Saying}
 use Rattle.script_line.specs.Texts.{IsTextOf}
 use Rattle.script_line.specs.declared.line.ScriptLine.{ScriptLine}
-use Rattle.script_player.specs.Replay.{Played, MayBePlayed, is_valid, lines_of}
+use Rattle.replay_command.specs.Replay.{Played, MayBePlayed, is_valid, lines_of}
 use Rattle.station_values.specs.Station.{StationFields}
 
 -- a text says a line that may stand after the lines before it

@@ -1,31 +1,32 @@
 //! `replay`: plays a script against a station, line by line.
 ghost use Rattle.std.specs.Prelude.{◌≡◌, ◌≤◌, ◌^◌, ◌⊎◌, [], None, IfOk, MatchResult};
 ghost use Rattle.file_reader.specs.declared.reader.FileEnd.TheVariants.{Whole};
-ghost use Rattle.file_commands.specs.Effects.{effect_of};
-ghost use Rattle.file_commands.specs.Keeping.{TriesFile};
-ghost use Rattle.file_commands.specs.LineFiles.{RunsThrough};
+ghost use Rattle.command_ends.specs.Effects.{effect_of};
+ghost use Rattle.line_files.specs.Keeping.{TriesFile};
+ghost use Rattle.line_files.specs.LineFiles.{RunsThrough};
 ghost use Rattle.replay_command.specs.Playing.{IsPlayedBy};
 ghost use Rattle.replay_command.specs.Replaying.{RunsReplay, replay_ending, script_of};
-ghost use Rattle.file_commands.specs.Reports.{Reports, status_in};
-ghost use Rattle.file_commands.specs.Unopened.{Lacks};
-ghost use Rattle.file_commands.specs.StationFile.{IsObstacle};
-ghost use Rattle.receiver_rack.specs.Racks.{IsRack};
-ghost use Rattle.script_player.specs.KeptPlayer.{HasPlayed, IsReady};
-ghost use Rattle.script_player.specs.Replay.{case_of};
+ghost use Rattle.command_ends.specs.Reports.{Reports, status_in};
+ghost use Rattle.command_ends.specs.Unopened.{Lacks};
+ghost use Rattle.command_ends.specs.StationFile.{IsObstacle};
+ghost use Rattle.station_gear.specs.Racks.{IsRack};
+ghost use Rattle.replay_command.specs.KeptPlayer.{HasPlayed, IsReady};
+ghost use Rattle.replay_command.specs.Replay.{case_of};
 ghost use Rattle.station_reader.specs.Faults.{Says};
 ghost use Rattle.station_values.specs.Station.{StationFields};
 
 mod replayer;
 
-use file_commands::{
-    Ending, Known, Obstacle, Outcome, Report, STATION_LIMIT, Subject, ending_at, finish, finish_at,
-    finish_page, judge, open_station, read_lines,
+use crate::{BoxedReceiver, Player};
+use command_ends::{
+    Ending, Known, Obstacle, Outcome, Report, STATION_LIMIT, Subject, finish, finish_at,
+    finish_page, judge, open_station,
 };
 use file_reader::{FileEnd, LogEnd};
+use line_files::{ending_at, read_lines};
 use outside_traits::{Failed, Outside, Sink, Source};
 use radio_receiver::Receiver;
 use replayer::Replayer;
-use script_player::{BoxedReceiver, Player};
 use std::alloc::{AllocError, Global};
 
 // The most bytes of a script.

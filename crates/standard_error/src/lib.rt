@@ -3,7 +3,8 @@
 //!
 //! To read it in this order: `message` (about a run that has ended), `names` (of feeds and links), `watched` (which minutes a log
 //! gave), `fault`, `arguments`, `commands` (a wrong command line), `fault_line` (a file that is not TOML), `bad_line` (a line that
-//! is not valid), `widths` (a log without a minute), `beginning` (a run that begins), `texts` (all of them).
+//! is not valid), `widths` (a log without a minute), `beginning` (a run that begins), `texts` (all of them). `report` and `note` put a text together
+//! from what came of a run, its arguments and its files, and write it. A closed standard error changes nothing.
 #![tactic(auto)]
 
 mod arguments;
@@ -14,6 +15,8 @@ mod fault;
 mod fault_line;
 mod message;
 mod names;
+mod note;
+mod report;
 mod texts;
 mod watched;
 mod widths;
@@ -24,6 +27,8 @@ pub use beginning::Beginning;
 pub use fault_line::{TomlFault, toml_fault};
 pub use message::{BadLine, Detail, Message};
 pub use names::{file_of, is_leap_file};
+pub use note::write_beginning;
+pub use report::write_report;
 pub use texts::{NO_MEMORY_LINE, NO_MINUTE};
 pub use watched::{Minutes, Watched};
 pub use widths::{SAMPLE_BYTES, no_minute_text};

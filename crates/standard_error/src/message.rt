@@ -9,7 +9,7 @@ use crate::texts::{
     NO_OUTPUT, NO_TOML, NO_TOML_LINE, NO_TWO_AGREE, NOT_READ, SCRIPT_LINE, VERSION, most_of,
     range_of, write_texts,
 };
-use file_commands::{Ending, Outcome, Report, Subject};
+use command_ends::{Ending, Outcome, Report, Subject};
 use host_links::Refusal;
 use station_reader::{KeyText, StationFault};
 use std::fmt;

@@ -1,7 +1,7 @@
 //! What a station calls its feeds and links.
 
 use crate::texts::write_texts;
-use file_commands::Subject;
+use command_ends::Subject;
 use station_values::Station;
 use std::fmt;
 use std::net::Ipv4Addr;

@@ -13,8 +13,8 @@ use Rattle.feed_workers.specs.Keeping.{Keeps, Share, share_of}
 use Rattle.feed_workers.specs.Leaps.{due_leap}
 use Rattle.feed_workers.specs.Polls.{due_link}
 use Rattle.journal_entry.specs.declared.entry.Entry.{Entry}
-use Rattle.log_decoder.specs.Decoding.{HasDecoded}
-use Rattle.log_decoder.specs.Due.{due_log}
+use Rattle.radio_receiver.specs.Decoding.{HasDecoded}
+use Rattle.radio_receiver.specs.Due.{due_log}
 use Rattle.page_cell.proofs.Places.{of_same}
 use Rattle.page_cell.specs.Claims.{IsTrueOf, of_feed}
 use Rattle.page_cell.specs.Passes.{Known, claim_of}
@@ -23,13 +23,13 @@ use Rattle.page_cell.specs.declared.view.Claim.{Claim}
 use Rattle.radio_receiver.specs.Boxes.{Boxed}
 use Rattle.radio_receiver.specs.Histories.{History}
 use Rattle.station_values.specs.Station.{RadioFields, ServerFields}
-use Rattle.crew_work.proofs.ListLaws.{all_right, below_or, both_keeps, each_keeps, each_map, last_same, map_both, pairs_at, pairs_length, snoc_view, some_of}
+use Rattle.feed_workers.proofs.ListLaws.{all_right, below_or, both_keeps, each_keeps, each_map, last_same, map_both, pairs_at, pairs_length, snoc_view, some_of}
 use Rattle.station_crew.proofs.PassLaws.{feeds_length, leap_at, poller_at, radio_at}
-use Rattle.crew_work.specs.Due.{HasDue}
+use Rattle.feed_workers.specs.Due.{HasDue}
 use Rattle.station_crew.specs.Jobs.{IsAssigned, LeapRan, MayReceive, MayNotice, MayPoll, PollRan, RadioRan}
 use Rattle.station_crew.specs.Collecting.{file_of, leap_pass, log_of, passes_of, poll_pass, radio_pass, server_link, server_of}
-use Rattle.crew_work.specs.Lists.{Both, Each, Pairs}
-use Rattle.crew_work.specs.Served.{AreBlank, AsksServer, ReadsRadio, IsBlank, LeapServed, NoticesLeaps, RadiosServed, ServersServed, column_of, seen}
+use Rattle.feed_workers.specs.Lists.{Both, Each, Pairs}
+use Rattle.feed_workers.specs.Served.{AreBlank, AsksServer, ReadsRadio, IsBlank, LeapServed, NoticesLeaps, RadiosServed, ServersServed, column_of, seen}
 use Rattle.station_crew.specs.declared.jobs.LeapJob.{LeapJob}
 use Rattle.station_crew.specs.declared.jobs.PollJob.{PollJob}
 use Rattle.station_crew.specs.declared.jobs.RadioJob.{RadioJob}

@@ -24,16 +24,16 @@ use Rattle.responder.specs.Turns.{Turn, Reading, readings_of, IsRead, AreTurns, 
 use Rattle.responder.specs.declared.served.End.{End}
 use Rattle.responder.specs.declared.served.End.TheVariants.{Count, LinkEnd, LinkFault}
 use Rattle.responder.specs.declared.served.Served.{Served}
-use Rattle.crew_work.proofs.ListLaws.{all_right, each_map, map_both, pairs_at, pairs_length, some_of}
+use Rattle.feed_workers.proofs.ListLaws.{all_right, each_map, map_both, pairs_at, pairs_length, some_of}
 use Rattle.station_crew.specs.Crews.{IsNewReader}
 use Rattle.station_crew.specs.Collecting.{link_of, serve_pass}
 use Rattle.station_crew.specs.Jobs.{HasServed, HasServedAgain}
-use Rattle.crew_work.specs.Lists.{Each, Pairs}
-use Rattle.crew_work.specs.Served.{HasSecond, IsReadOf, LinksServed, ServesLink, ServesPhase, Service, seen}
+use Rattle.feed_workers.specs.Lists.{Each, Pairs}
+use Rattle.feed_workers.specs.Served.{HasSecond, IsReadOf, LinksServed, ServesLink, ServesPhase, Service, seen}
 use Rattle.station_crew.specs.Informing.{HasSeenAll, HasServedTwice, WasInformed}
 use Rattle.station_crew.specs.declared.jobs.ServeJob.{ServeJob}
-use Rattle.crew_work.specs.declared.work.Budget.{Budget}
-use Rattle.crew_work.specs.declared.work.LinkWork.{LinkWork}
+use Rattle.feed_workers.specs.declared.crew.Budget.{Budget}
+use Rattle.feed_workers.specs.declared.crew.LinkWork.{LinkWork}
 use Rattle.system_fold.specs.Settings.{SettingsFields}
 use Rattle.verdict_journal.specs.Journals.{HasRead}
 

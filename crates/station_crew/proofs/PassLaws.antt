@@ -4,7 +4,7 @@ use Rattle.std.specs.Prelude.{Option, Some, get_or}
 use Rattle.std.specs.Option.{option_to_list}
 use Rattle.std.proofs.lemmas.List.{length-map, get_or_append_left, get_or-append_right}
 use Rattle.page_cell.specs.Passes.{Known}
-use Rattle.crew_work.proofs.ListLaws.{left_at, right_at}
+use Rattle.feed_workers.proofs.ListLaws.{left_at, right_at}
 use Rattle.station_crew.specs.Collecting.{leap_pass, passes_of, poll_pass, radio_pass}
 use Rattle.station_crew.specs.declared.jobs.LeapJob.{LeapJob}
 use Rattle.station_crew.specs.declared.jobs.PollJob.{PollJob}

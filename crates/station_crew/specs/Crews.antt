@@ -10,8 +10,8 @@ use Rattle.radio_receiver.specs.Histories.{History}
 use Rattle.station_values.specs.Station.{StationFields, gate_of}
 use Rattle.station_crew.specs.Jobs.{IsAssigned}
 use Rattle.station_crew.specs.Collecting.{file_of, link_of, log_of, number_of, passes_of, server_link, server_of}
-use Rattle.crew_work.specs.Lists.{Pairs}
-use Rattle.crew_work.specs.declared.work.Work.{Work}
+use Rattle.feed_workers.specs.Lists.{Pairs}
+use Rattle.feed_workers.specs.declared.crew.Work.{Work}
 use Rattle.station_crew.specs.declared.crew.Crew.{Crew}
 use Rattle.station_crew.specs.declared.crew.Collected.{Collected}
 use Rattle.station_crew.specs.declared.crew.Passes.{Passes}

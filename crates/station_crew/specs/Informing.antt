@@ -2,7 +2,7 @@
 use Rattle.std.specs.Prelude.{◌≡◌, ◌≤◌, ℕ, List, All, length}
 use Rattle.outside_traits.specs.States.{LinkState}
 use Rattle.page_cell.specs.Passes.{Known, KnownReader, claim_of}
-use Rattle.crew_work.specs.declared.work.Budget.{Budget}
+use Rattle.feed_workers.specs.declared.crew.Budget.{Budget}
 use Rattle.station_crew.specs.Jobs.{HasServed, HasServedAgain}
 use Rattle.station_crew.specs.declared.jobs.ServeJob.{ServeJob}
 

@@ -6,7 +6,7 @@ use Rattle.feed_workers.specs.Keeping.{IsOfFeed}
 use Rattle.feed_workers.specs.Leaps.{RunsLeap, leap_intake}
 use Rattle.feed_workers.specs.Logs.{RunsLog, log_intake}
 use Rattle.feed_workers.specs.Polling.{RunsPolls, session_of}
-use Rattle.log_decoder.specs.Decoding.{HasDecoded, IsReady, feed_of}
+use Rattle.radio_receiver.specs.Decoding.{HasDecoded, IsReady, feed_of}
 use Rattle.page_cell.specs.Passes.{claim_of}
 use Rattle.radio_receiver.specs.Boxes.{Boxed}
 use Rattle.radio_receiver.specs.Histories.{History}

@@ -11,13 +11,14 @@ ghost use Rattle.station_crew.specs.Jobs.{IsAssigned};
 ghost use Rattle.station_crew.specs.Collecting.{file_of, leap_pass, link_of, log_of, number_of, passes_of};
 ghost use Rattle.station_crew.specs.Collecting.{poll_pass, radio_pass, serve_pass, server_link, server_of};
 ghost use Rattle.station_gear.specs.Opens.{IsWhole};
-ghost use Rattle.crew_work.specs.Served.{AreBlank};
-ghost use Rattle.crew_work.specs.Lists.{Pairs};
+ghost use Rattle.feed_workers.specs.Served.{AreBlank};
+ghost use Rattle.feed_workers.specs.Lists.{Pairs};
 
 use crate::crew::{Crew, Equipment, Passes};
 use crate::jobs::{LeapJob, PollJob, RadioJob, ServeJob};
-use crew_work::LinkWork;
-use feed_workers::{LeapWorker, LogEnd, LogWork, PollEnd, PollWork, PollWorker, RadioWorker};
+use feed_workers::{
+    LeapWorker, LinkWork, LogEnd, LogWork, PollEnd, PollWork, PollWorker, RadioWorker,
+};
 use kiss_gate::ClientGate;
 use outside_traits::{Link, Source};
 use page_cell::{FeedPass, ReadPass};

@@ -7,8 +7,7 @@ ghost use Rattle.station_crew.specs.Collecting.{radio_pass, serve_pass, server_l
 
 use crate::crew::{Collected, Crew};
 use crate::jobs::{LeapJob, PollJob, RadioJob, ServeJob};
-use crew_work::LinkWork;
-use feed_workers::{LogWork, PollWork};
+use feed_workers::{LinkWork, LogWork, PollWork};
 use outside_traits::{Link, Source};
 use page_cell::{FeedPass, ReadPass};
 

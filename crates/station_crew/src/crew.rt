@@ -1,7 +1,7 @@
 // What the parts of this crate pass on, in the order in which a run of a station has it.
 
 use crate::jobs::{LeapJob, PollJob, RadioJob, ServeJob};
-use crew_work::Work;
+use feed_workers::Work;
 use kiss_gate::ClientGate;
 use page_cell::{CellParts, FeedPass, ReadPass};
 use station_gear::Gear;

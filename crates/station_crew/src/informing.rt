@@ -3,7 +3,7 @@ ghost use Rattle.std.specs.Prelude.{◌≡◌, ◌≤◌, ◌+◌, [], All, leng
 ghost use Rattle.std.specs.List.{range_with_len};
 ghost use Rattle.page_cell.specs.Passes.{claim_of};
 ghost use Rattle.station_crew.specs.Collecting.{number_of};
-ghost use Rattle.crew_work.specs.Lists.{Pairs};
+ghost use Rattle.feed_workers.specs.Lists.{Pairs};
 ghost use Rattle.station_crew.specs.Informing.{HasLearnt, HasSeenAll, WasInformed};
 
 use crate::jobs::ServeJob;

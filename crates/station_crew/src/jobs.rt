@@ -1,7 +1,6 @@
 // Workers, and what each has done.
 
-use crew_work::LinkWork;
-use feed_workers::{LeapWorker, LogWork, PollWork, PollWorker, RadioWorker};
+use feed_workers::{LeapWorker, LinkWork, LogWork, PollWork, PollWorker, RadioWorker};
 use responder::Responder;
 
 /// A radio's worker, and what it did.

@@ -16,5 +16,5 @@ mod phases;
 mod station;
 
 pub use crew::{Ended, Equipment};
-pub use crew_work::{Budget, LinkWork, Orders, Work};
+pub use feed_workers::{Budget, LinkWork, Orders, Work};
 pub use station::serve_station;

@@ -6,15 +6,15 @@ ghost use Rattle.page_cell.specs.Views.{new_claim};
 ghost use Rattle.station_values.specs.Station.{IsStation, gate_of, leap_feed, settings_of};
 ghost use Rattle.station_crew.specs.Crews.{HasRoom, IsNewReader};
 ghost use Rattle.station_gear.specs.Opens.{IsWhole};
-ghost use Rattle.crew_work.specs.Served.{AreBlank, IsJournalOf, LeapServed, LinksServed, RadiosServed, ServersServed};
-ghost use Rattle.crew_work.specs.Served.{column_of, seen, service_of};
+ghost use Rattle.feed_workers.specs.Served.{AreBlank, IsJournalOf, LeapServed, LinksServed, RadiosServed, ServersServed};
+ghost use Rattle.feed_workers.specs.Served.{column_of, seen, service_of};
 
 use crate::assigning::assign_crew;
 use crate::collecting::{collect_feeds, collect_responders};
 use crate::crew::{Collected, Ended, Equipment, Passes, Reserved};
 use crate::informing::inform_responders;
 use crate::phases::{run_first, run_second};
-use crew_work::Orders;
+use feed_workers::Orders;
 use outside_traits::{Gate, Link, Source};
 use radio_receiver::{BoxedReceiver, Receiver};
 use station_gear::Gear;

@@ -2,7 +2,7 @@
 ghost use Rattle.std.specs.Prelude.{◌≡◌, All, IfSome, length, vec_len};
 ghost use Rattle.station_crew.specs.Jobs.{HasServed, HasServedAgain, LeapRan, PollRan, RadioRan};
 ghost use Rattle.station_crew.specs.Jobs.{MayReceive, MayNotice, MayPoll};
-ghost use Rattle.crew_work.specs.Lists.{Both, Each, Every};
+ghost use Rattle.feed_workers.specs.Lists.{Both, Each, Every};
 
 use crate::crew::Crew;
 use crate::jobs::{LeapJob, PollJob, RadioJob, ServeJob};

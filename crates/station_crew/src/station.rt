@@ -4,12 +4,12 @@ ghost use Rattle.station_values.specs.Station.{gate_of, leap_feed, settings_of};
 ghost use Rattle.station_crew.specs.Crews.{HasRoom, HasRoomFor, HasRoomToCollect};
 ghost use Rattle.station_crew.specs.Crews.{HasRoomForGear, HasRoomForPasses, HasRoomForWork};
 ghost use Rattle.station_gear.specs.Opens.{IsWhole};
-ghost use Rattle.crew_work.specs.Served.{AreBlank, IsJournalOf, LeapServed, LinksServed, RadiosServed, ServersServed};
-ghost use Rattle.crew_work.specs.Served.{column_of, seen, service_of};
+ghost use Rattle.feed_workers.specs.Served.{AreBlank, IsJournalOf, LeapServed, LinksServed, RadiosServed, ServersServed};
+ghost use Rattle.feed_workers.specs.Served.{column_of, seen, service_of};
 
 use crate::crew::{Collected, Crew, Ended, Equipment, Passes, Reserved};
 use crate::named::serve_named;
-use crew_work::{Orders, Work};
+use feed_workers::{Orders, Work};
 use kiss_gate::{ClientGate, GateOpen};
 use outside_traits::{Gate, Link, Source};
 use page_cell::{CellParts, PageCell};

@@ -3,3 +3,7 @@ pub mod BackLaws
 pub mod GearLaws
 pub mod HoldingLaws
 pub mod PhaseLaws
+pub mod FittingLaws
+pub mod ListLaws
+pub mod MadeLaws
+pub mod RackLaws

@@ -7,8 +7,8 @@ use Rattle.std.proofs.lemmas.List.{append-nil}
 use Rattle.std.proofs.lemmas.List.Elements.{All-nil, All-cons, All-push, All-head, All-tail}
 use Rattle.station_report.specs.Crewing.{HasLeast}
 use Rattle.station_report.specs.Headline.{IsFirstOfLeast, IsReported, number_at}
-use Rattle.file_commands.specs.declared.ending.Ending.{Ending}
-use Rattle.file_commands.specs.declared.ending.Ending.TheVariants.{Whole}
+use Rattle.command_ends.specs.declared.ending.Ending.{Ending}
+use Rattle.command_ends.specs.declared.ending.Ending.TheVariants.{Whole}
 
 abbrev IsAbove : ℕ → Ending → Type 0
 IsAbove n other = n < number_at other

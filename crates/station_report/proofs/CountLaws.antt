@@ -9,7 +9,7 @@ use Rattle.std.proofs.Math.Seq.{take-length}
 use mathlib.Core.List.{IsPrefix}
 use Rattle.journal_entry.specs.declared.entry.Entry.{Entry}
 use Rattle.page_cell.specs.Claims.{of_feed}
-use Rattle.crew_work.specs.Due.{HasDue}
+use Rattle.feed_workers.specs.Due.{HasDue}
 
 abbrev pub is_so : Bool → Bool
 is_so full = full

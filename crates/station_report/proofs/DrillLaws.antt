@@ -15,9 +15,9 @@ use Rattle.outside_traits.specs.States.{LinkState, SinkState, SourceState}
 use Rattle.memory_links.specs.declared.sure_source.SureSource.{SureSource}
 use Rattle.file_reader.specs.declared.log_end.LogEnd.TheVariants as log
 use Rattle.journal_entry.specs.declared.entry.Entry.{Entry}
-use Rattle.journal_orders.specs.Orders.{KeepsFeeds, NamesNoLeap, leap_named}
-use Rattle.journal_orders.proofs.OrderLaws.{page-kept}
-use Rattle.log_decoder.specs.Due.{entry_of}
+use Rattle.drill_day.specs.Orders.{KeepsFeeds, NamesNoLeap, leap_named}
+use Rattle.drill_day.proofs.OrderLaws.{page-kept}
+use Rattle.radio_receiver.specs.Due.{entry_of}
 use Rattle.page_cell.specs.Claims.{of_feed}
 use Rattle.drill_day.specs.Day.{day_due, day_log, day_logs, source_of}
 use Rattle.station_values.specs.Station.{RadioFields, one_of_each, settings_of}
@@ -29,22 +29,22 @@ use Rattle.tick_units.specs.Log.{bad_at_end, pulses}
 use Rattle.tick_units.specs.declared.marks.Plan.TheVariants.{Dcf, Msf, Wwvb}
 use Rattle.tick_units.specs.declared.verdicts.Heard.{Heard}
 use Rattle.radio_receiver.specs.Histories.{answers_of}
-use Rattle.crew_work.specs.Served.{seen, sights_of}
+use Rattle.feed_workers.specs.Served.{seen, sights_of}
 use Rattle.station_report.specs.Crewing.{LeavesAll, causes_left}
-use Rattle.file_commands.specs.Decoding.{IsGoodLog}
+use Rattle.line_files.specs.GoodLogs.{IsGoodLog}
 use Rattle.station_report.specs.DrillScaffold.{FinishesDrill, HasDayGear, HasDrilled, feed_lines}
 use Rattle.station_report.specs.Drilling.{Drills, day_journal, day_run, drill_text, feed_line, whole_run}
-use Rattle.file_commands.specs.Endings.{status_line, status_of}
+use Rattle.command_ends.specs.Endings.{status_line, status_of}
 use Rattle.station_report.specs.Headline.{HasDueEntries, IsReported, LeapRun, LinkRun, LogRun, PollRun, StationRun, due_in_all, dues, each_cause, full_cause, leap_dues, link_cause, log_cause, poll_cause, radio_dues, server_dues}
 use Rattle.station_report.specs.Serving.{IsGoodLogRun}
-use Rattle.file_commands.specs.Text.{page_text}
-use Rattle.file_commands.specs.Effects.{effect_of}
-use Rattle.file_commands.specs.Writing.{Answers}
-use Rattle.file_commands.specs.declared.ending.Ending.{Ending}
-use Rattle.file_commands.specs.declared.ending.Ending.TheVariants.{Full, Whole}
-use Rattle.file_commands.specs.declared.ending.status.Status.{Status}
+use Rattle.command_ends.specs.Text.{page_text}
+use Rattle.command_ends.specs.Effects.{effect_of}
+use Rattle.command_ends.specs.Writing.{Answers}
+use Rattle.command_ends.specs.declared.ending.Ending.{Ending}
+use Rattle.command_ends.specs.declared.ending.Ending.TheVariants.{Full, Whole}
+use Rattle.command_ends.specs.declared.ending.status.Status.{Status}
 use Rattle.station_report.specs.declared.done.Done.{Done}
-use Rattle.crew_work.specs.declared.work.Orders.{Orders}
+use Rattle.feed_workers.specs.declared.crew.Orders.{Orders}
 use Rattle.station_report.proofs.GoodStationLaws.{good_logs}
 use Rattle.station_report.proofs.RunOfLaws.{LogsRun, polled-length}
 use Rattle.station_report.proofs.ServingLaws as serving
@@ -108,7 +108,7 @@ dues_with : (feed : ℕ) (radios : List RadioFields) (texts : List (List ℕ)) (
 dues_with feed [] texts runs n = refl
 dues_with feed (radio ∷ radios) [] runs n = refl
 dues_with feed (radio ∷ radios) (text ∷ texts) [] n = absurd (omega (arith, n))
-dues_with feed (radio ∷ radios) (text ∷ texts) (run ∷ runs) n = ap (λ l. Rattle.log_decoder.specs.Due.due_log feed radio.plan radio.delay text ∷ l) (dues_with (suc feed) radios texts runs (omega (arith, n)))
+dues_with feed (radio ∷ radios) (text ∷ texts) (run ∷ runs) n = ap (λ l. Rattle.radio_receiver.specs.Due.due_log feed radio.plan radio.delay text ∷ l) (dues_with (suc feed) radios texts runs (omega (arith, n)))
 
 opened_states : (texts : List (List ℕ)) (logs : List SureSource) → map sure_state logs ≡ map source_of texts → log_states sure_state logs ≡ map (λ text. OfLog (source_of text)) texts
 opened_states [] [] e = refl

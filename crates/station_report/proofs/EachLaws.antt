@@ -7,9 +7,9 @@ use Rattle.outside_traits.specs.States.{SinkState}
 use Rattle.journal_entry.specs.Texts.{spaced}
 use Rattle.station_report.specs.Crewing.{HasLeast}
 use Rattle.station_report.specs.Headline.{each_cause, each_text}
-use Rattle.sink_text.specs.Writing.{WritesAll, WritesPrefix}
-use Rattle.file_commands.specs.declared.ending.Ending.{Ending}
-use Rattle.sink_text.proofs.WritingLaws.{prefix_of_more, writes_prefix, writes_more}
+use Rattle.outside_traits.specs.Writing.{WritesAll, WritesPrefix}
+use Rattle.command_ends.specs.declared.ending.Ending.{Ending}
+use Rattle.outside_traits.proofs.WritingLaws.{prefix_of_more, writes_prefix, writes_more}
 
 pub drop_one : {X : Type 0} (xs : List X) (i : ℕ) (d : X) → i < length xs → drop i xs ≡ get_or xs i d ∷ drop (i + 1) xs
 drop_one [] i d lt = absurd (omega (arith, lt))

@@ -13,7 +13,7 @@ use Rattle.outside_traits.specs.Openings.Wanted.{LogOf}
 use Rattle.outside_traits.specs.States.{LinkState, NetEvent, SinkState, SourceState, Adds}
 use Rattle.feed_workers.specs.Leaps.{EndsLeap, due_leap, most_of_a_list}
 use Rattle.feed_workers.specs.Logs.{EndsLog}
-use Rattle.log_decoder.specs.Decoding.{most_of_a_log}
+use Rattle.radio_receiver.specs.Decoding.{most_of_a_log}
 use Rattle.leap_file.specs.Rows.{bad_line}
 use Rattle.leap_file.proofs.GrowthLaws.{bad_whole_is, stays_bad}
 use Rattle.feed_workers.specs.Polling.{EndsPolls}
@@ -31,25 +31,26 @@ use Rattle.station_reader.specs.Faults.{Fault, Says, IsFirst, faults_of, Refuses
 use Rattle.station_values.specs.Station.{RadioFields, ServerFields, StationFields, leap_feed}
 use Rattle.station_reader.specs.declared.fault.StationFault.{StationFault}
 use Rattle.station_reader.specs.declared.fault.StationFault.TheVariants as fault
-use Rattle.crew_work.specs.Lists.{Pairs}
-use Rattle.crew_work.proofs.ListLaws.{length-is-some}
-use Rattle.file_commands.specs.Decoding.{IsGoodLog}
-use Rattle.file_commands.specs.Endings.{status_of}
+use Rattle.feed_workers.specs.Lists.{Pairs}
+use Rattle.feed_workers.proofs.ListLaws.{length-is-some}
+use Rattle.line_files.specs.GoodLogs.{IsGoodLog}
+use Rattle.command_ends.specs.Endings.{status_of}
 use Rattle.station_report.specs.Headline.{EndsPhases, IsAnswered, IsPolled, IsReported, LeapRun, LinkRun, LogRun, PollRun, StationRun, causes, due_in_all, dues, each_cause, full_cause, leap_dues, link_cause, log_cause, poll_cause, radio_dues, server_dues}
-use Rattle.crew_work.specs.declared.work.Orders.{Orders}
+use Rattle.feed_workers.specs.declared.crew.Orders.{Orders}
 use Rattle.station_report.specs.Serving.{EndsUnserved, HasGoodStation, IsGoodLeapRun, IsGoodLink, IsGoodList, IsGoodLogRun, RunsServe, ServesStation, back_in, opened_in}
-use Rattle.file_commands.specs.StationFile.{EndsAtStation, IsObstacle, IsStation, line_at, most_of_a_station, status_at}
-use Rattle.file_commands.specs.Effects.{Effect}
-use Rattle.file_commands.specs.Writing.{Answers}
-use Rattle.file_commands.specs.declared.ending.Ending.{Ending}
-use Rattle.file_commands.specs.declared.ending.Ending.TheVariants as ending
-use Rattle.file_commands.specs.declared.ending.status.Status.{Status}
-use Rattle.file_commands.specs.declared.ending.status.Status.TheVariants.{Done, Memory}
-use Rattle.file_commands.specs.declared.station_file.obstacle.Obstacle.{Obstacle}
-use Rattle.file_commands.proofs.GoodLogLaws.{prefix_by, prefix_of, good_reach, none_left, rose_by_one, whole_text}
-use Rattle.file_commands.proofs.LineFileLaws.{read_station}
-use Rattle.file_commands.proofs.OpeningLaws.{first_of, not_failed, rest_of, same_more, same_states}
-use Rattle.file_commands.proofs.EndLaws.{prefix_of_whole}
+use Rattle.command_ends.specs.StationFile.{EndsAtStation, IsObstacle, IsStation, line_at, most_of_a_station, status_at}
+use Rattle.command_ends.specs.Effects.{Effect}
+use Rattle.command_ends.specs.Writing.{Answers}
+use Rattle.command_ends.specs.declared.ending.Ending.{Ending}
+use Rattle.command_ends.specs.declared.ending.Ending.TheVariants as ending
+use Rattle.command_ends.specs.declared.ending.status.Status.{Status}
+use Rattle.command_ends.specs.declared.ending.status.Status.TheVariants.{Done, Memory}
+use Rattle.command_ends.specs.declared.station_file.obstacle.Obstacle.{Obstacle}
+use Rattle.line_files.proofs.GoodLogLaws.{prefix_by, good_reach}
+use Rattle.line_files.proofs.PrefixLaws.{prefix_of, none_left, rose_by_one, whole_text}
+use Rattle.line_files.proofs.LineFileLaws.{read_station}
+use Rattle.command_ends.proofs.OpeningLaws.{first_of, not_failed, rest_of, same_more, same_states}
+use Rattle.line_files.proofs.EndLaws.{prefix_of_whole}
 use Rattle.station_report.proofs.RunOfLaws.{polled-length}
 
 -- where no write failed, the status is the one that is due
@@ -170,7 +171,7 @@ good_logs feed radios (r ∷ runs) (g ∷ goods) reads good same too =
   where
     more : (of : List RadioFields) → r.bytes ≡ g.bytes → ((others : List RadioFields) → radio_dues (suc feed) others runs ≡ radio_dues (suc feed) others goods) → radio_dues feed of (r ∷ runs) ≡ radio_dues feed of (g ∷ goods)
     more [] bytes rest = refl
-    more (radio ∷ others) bytes rest = ap (λ b. Rattle.log_decoder.specs.Due.due_log feed radio.plan radio.delay b ∷ radio_dues (suc feed) others runs) bytes ∙ ap (λ l. Rattle.log_decoder.specs.Due.due_log feed radio.plan radio.delay g.bytes ∷ l) (rest others)
+    more (radio ∷ others) bytes rest = ap (λ b. Rattle.radio_receiver.specs.Due.due_log feed radio.plan radio.delay b ∷ radio_dues (suc feed) others runs) bytes ∙ ap (λ l. Rattle.radio_receiver.specs.Due.due_log feed radio.plan radio.delay g.bytes ∷ l) (rest others)
 
 -- so is a leap second file
 good_file : (opened back : SourceState) (good : IsGoodList opened back) (bytes : List ℕ) (whole : Bool) (end : LogEnd) → EndsLeap most_of_a_list opened back bytes whole end →
@@ -292,7 +293,7 @@ no_faults bytes of says top document =
     ap faults_of same ∙ says.no_fault
 
 -- a text that says a station is not refused
-not_refused : (bytes : List ℕ) (of : StationFields) (why : StationFault) → Says bytes of → RefusesStation bytes why → Rattle.file_commands.specs.StationFile.IsNamed why → ⊥
+not_refused : (bytes : List ℕ) (of : StationFields) (why : StationFault) → Says bytes of → RefusesStation bytes why → Rattle.command_ends.specs.StationFile.IsNamed why → ⊥
 not_refused bytes of fault.Memory says refuses named = named
 not_refused bytes of fault.NotToml says refuses named = refuses says.top says.document
 not_refused bytes of (fault.UnknownKey key) says refuses named = one_fault (faults_of refuses.0) _ (no_faults bytes of says refuses.0 refuses.1) refuses.2

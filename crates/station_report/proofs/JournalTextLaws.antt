@@ -5,11 +5,11 @@ use Rattle.std.specs.List.{flat_map}
 use Rattle.journal_entry.specs.Numbers.{numbered_text}
 use Rattle.journal_entry.specs.declared.entry.Entry.{Entry}
 use Rattle.journal_entry.specs.declared.numbered.Numbered.{Numbered}
-use Rattle.crew_work.proofs.JournalLaws.{numbered-same}
+use Rattle.feed_workers.proofs.JournalLaws.{numbered-same}
 use Rattle.system_fold.specs.Numbered.{numbered_after}
 use Rattle.system_fold.specs.Settings.{SettingsFields}
 use Rattle.verdict_journal.specs.Journals.{numbered_of}
-use Rattle.file_commands.specs.Migrating.{journal_text}
+use Rattle.line_files.specs.Texts.{journal_text}
 
 abbrev pub line_of : Numbered → List ℕ
 line_of n = numbered_text n ++ codes "\n"

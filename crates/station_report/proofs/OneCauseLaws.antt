@@ -4,7 +4,7 @@ use Rattle.std.proofs.Common.{◌≡◌, ℕ, ◌<◌, ◌≤◌, List, [], ◌�
 use Rattle.std.specs.Prelude.{All}
 use Rattle.std.proofs.lemmas.List.Elements.{All-head, All-tail}
 use Rattle.station_report.specs.Headline.{IsFirstOfLeast, IsReported, number_at}
-use Rattle.file_commands.specs.declared.ending.Ending.{Ending}
+use Rattle.command_ends.specs.declared.ending.Ending.{Ending}
 
 abbrev IsAbove : ℕ → Ending → Type 0
 IsAbove number other = number < number_at other

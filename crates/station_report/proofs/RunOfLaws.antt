@@ -12,21 +12,21 @@ use Rattle.outside_traits.specs.Openings.State.{OfLog, OfLink}
 use Rattle.outside_traits.proofs.StateLaws.{Adds-more}
 use Rattle.feed_workers.specs.Leaps.{EndsLeap, most_of_a_list}
 use Rattle.feed_workers.specs.Logs.{EndsLog}
-use Rattle.log_decoder.specs.Decoding.{most_of_a_log}
+use Rattle.radio_receiver.specs.Decoding.{most_of_a_log}
 use Rattle.feed_workers.specs.declared.work.LogWork.{LogWork}
 use Rattle.feed_workers.specs.declared.work.PollWork.{PollWork}
 use Rattle.journal_entry.specs.declared.entry.Entry.{Entry}
 use Rattle.radio_receiver.specs.Histories.{History}
-use Rattle.receiver_rack.specs.Racks.{AreOf, silent}
+use Rattle.station_gear.specs.Racks.{AreOf, silent}
 use Rattle.responder.specs.Serving.{EndsBy}
 use Rattle.responder.specs.Turns.{Turn, events_of, answered_of, dropped_of, kissed_of, torn_of, unkept_of}
 use Rattle.responder.specs.declared.served.End.{End}
 use Rattle.responder.specs.declared.served.End.TheVariants.{Count, LinkEnd, LinkFault}
 use Rattle.responder.specs.declared.served.Served.{Served}
 use Rattle.station_values.specs.Station.{RadioFields, ServerFields, StationFields}
-use Rattle.crew_work.specs.Lists.{Pairs}
-use Rattle.crew_work.specs.Served.{AreBlank, AsksServer, ReadsRadio, LeapServed, ServesLink, ServesPhase, column_of, seen, service_of}
-use Rattle.crew_work.specs.declared.work.LinkWork.{LinkWork}
+use Rattle.feed_workers.specs.Lists.{Pairs}
+use Rattle.feed_workers.specs.Served.{AreBlank, AsksServer, ReadsRadio, LeapServed, ServesLink, ServesPhase, column_of, seen, service_of}
+use Rattle.feed_workers.specs.declared.crew.LinkWork.{LinkWork}
 use Rattle.station_gear.specs.Gears.{link_states, log_states}
 use Rattle.station_report.specs.Crewing.{end_of, end_by, in_both, line_of_work}
 use Rattle.station_report.specs.Headline.{IsAnswered, IsPolled, LeapRun, LinkRun, LogRun, PollRun, Tally, each_text, leap_dues, line_of_link, link_line, radio_dues, server_dues, tally_of}

@@ -21,8 +21,8 @@ use Rattle.journal_entry.specs.declared.entry.Entry.{Entry}
 use Rattle.page_cell.specs.Claims.{of_feed}
 use Rattle.station_reader.specs.Faults.{Says}
 use Rattle.station_values.specs.Station.{ServerFields, StationFields, kind_of_radio, kind_of_server, leap_feed, leap_feeds, settings_of}
-use Rattle.crew_work.proofs.JournalLaws.{feeds-counted}
-use Rattle.crew_work.proofs.ListLaws.{leap_feeds-length, length-is-some}
+use Rattle.feed_workers.proofs.JournalLaws.{feeds-counted}
+use Rattle.feed_workers.proofs.ListLaws.{leap_feeds-length, length-is-some}
 use Rattle.station_gear.specs.Gears.{logs_needed, numbers_of, servers_needed, states_of, wanted_by}
 use Rattle.station_gear.specs.Opens.{HoldsOpenings, IsUpTo, IsWhole, OpensAll, StopsAt}
 use Rattle.station_gear.specs.declared.gear.Gear.{Gear}
@@ -30,25 +30,25 @@ use Rattle.station_gear.specs.declared.gear.Missing.{Missing}
 use Rattle.station_gear.specs.declared.gear.Missing.TheVariants as missing
 use Rattle.station_gear.proofs.GearLaws.{all_visited, gear_sizes, same_numbers, visited_before}
 use Rattle.system_fold.specs.Page.{page_of}
-use Rattle.crew_work.specs.Served.{seen, sights_of}
+use Rattle.feed_workers.specs.Served.{seen, sights_of}
 use Rattle.station_report.specs.Crewing.{CannotServe, FinishesDone, GivesServed, GivesUnused, HasEach, IsLeftOf, LeavesAll, ServesAll, TriesServe, any_full, causes_left, end_of, line_of_work, lines_left, subject_of}
-use Rattle.file_commands.specs.Effects.{effect_of}
-use Rattle.file_commands.specs.Endings.{status_of, status_line}
+use Rattle.command_ends.specs.Effects.{effect_of}
+use Rattle.command_ends.specs.Endings.{status_of, status_line}
 use Rattle.station_report.specs.Headline.{HasDueEntries, IsReported, LeapRun, LinkRun, LogRun, PollRun, StationRun, causes, dues, each_cause, each_text, full_cause, leap_dues, link_cause, log_cause, poll_cause, radio_dues, served_text, server_dues}
-use Rattle.file_commands.specs.Keeping.{OpensStation}
-use Rattle.file_commands.specs.Migrating.{journal_text}
+use Rattle.command_ends.specs.Keeping.{OpensStation}
+use Rattle.line_files.specs.Texts.{journal_text}
 use Rattle.station_report.specs.Serving.{LacksOne, RunsServe, subject_at}
-use Rattle.file_commands.specs.StationFile.{IsObstacle, line_at, status_at}
-use Rattle.file_commands.specs.Text.{page_text}
-use Rattle.file_commands.specs.Writing.{Answers}
-use Rattle.file_commands.specs.declared.ending.Ending.{Ending}
-use Rattle.file_commands.specs.declared.ending.Ending.TheVariants.{NoMemory, NotOpened}
-use Rattle.file_commands.specs.declared.ending.status.Status.{Status}
-use Rattle.file_commands.specs.declared.ending.subject.Subject.{Subject}
-use Rattle.file_commands.specs.declared.ending.subject.Subject.TheVariants.{Feed, Link}
+use Rattle.command_ends.specs.StationFile.{IsObstacle, line_at, status_at}
+use Rattle.command_ends.specs.Text.{page_text}
+use Rattle.command_ends.specs.Writing.{Answers}
+use Rattle.command_ends.specs.declared.ending.Ending.{Ending}
+use Rattle.command_ends.specs.declared.ending.Ending.TheVariants.{NoMemory, NotOpened}
+use Rattle.command_ends.specs.declared.ending.status.Status.{Status}
+use Rattle.command_ends.specs.declared.ending.subject.Subject.{Subject}
+use Rattle.command_ends.specs.declared.ending.subject.Subject.TheVariants.{Feed, Link}
 use Rattle.station_report.specs.declared.done.Done.{Done}
-use Rattle.crew_work.specs.declared.work.Orders.{Orders}
-use Rattle.file_commands.specs.declared.station_file.obstacle.Obstacle.{Obstacle}
+use Rattle.feed_workers.specs.declared.crew.Orders.{Orders}
+use Rattle.command_ends.specs.declared.station_file.obstacle.Obstacle.{Obstacle}
 use Rattle.station_report.proofs.CountLaws.{HaveDue, beginnings, have_both, is_counted, is_lost, is_so, none_lost, wholes}
 use Rattle.station_report.proofs.RunOfLaws.{LeapsRun, LinksRun, LogsRun, PollsRun, leap_dues-length, leaps_run, links_run, logs_run, polled-length, polls_run, radio_dues-length}
 

@@ -10,27 +10,27 @@ use Rattle.feed_workers.specs.declared.work.PollWork.{PollWork}
 use Rattle.responder.specs.declared.served.End.{End}
 use Rattle.responder.specs.declared.served.Served.{Served}
 use Rattle.station_values.specs.Station.{StationFields, leap_feed, settings_of}
-use Rattle.crew_work.specs.Served.{IsJournalOf, LeapServed, LinksServed, RadiosServed, ServersServed, Sights, column_of, service_of}
-use Rattle.crew_work.specs.declared.work.LinkWork.{LinkWork}
+use Rattle.feed_workers.specs.Served.{IsJournalOf, LeapServed, LinksServed, RadiosServed, ServersServed, Sights, column_of, service_of}
+use Rattle.feed_workers.specs.declared.crew.LinkWork.{LinkWork}
 use Rattle.station_gear.specs.Gears.{numbers_of, states_of, wanted_by}
 use Rattle.station_gear.specs.declared.gear.Gear.{Gear}
 use Rattle.station_gear.specs.declared.gear.Missing.{Missing}
 use Rattle.station_gear.specs.declared.gear.Missing.TheVariants as missing
 use Rattle.system_fold.specs.Page.{page_of}
 use Rattle.verdict_journal.specs.Journals.{State}
-use Rattle.file_commands.specs.Endings.{status_of, status_line}
+use Rattle.command_ends.specs.Endings.{status_of, status_line}
 use Rattle.station_report.specs.Headline.{AnswersLinks, HasDueEntries, IsFirstOfLeast, IsReported, PollsServers, ReadsLogs, StationRun, Tally, causes, each_cause, each_text, full_cause, line_of_link, link_cause, link_line, log_cause, poll_cause}
-use Rattle.file_commands.specs.Migrating.{journal_text}
+use Rattle.line_files.specs.Texts.{journal_text}
 use Rattle.station_report.specs.Serving.{LacksOne, back_in, opened_in}
-use Rattle.file_commands.specs.Text.{page_text}
-use Rattle.file_commands.specs.Writing.{Answers}
-use Rattle.file_commands.specs.declared.ending.Ending.{Ending}
-use Rattle.file_commands.specs.declared.ending.Ending.TheVariants.{NoMemory}
-use Rattle.file_commands.specs.declared.ending.status.Status.{Status}
-use Rattle.file_commands.specs.declared.ending.subject.Subject.{Subject}
-use Rattle.file_commands.specs.declared.ending.subject.Subject.TheVariants.{Feed, Link}
+use Rattle.command_ends.specs.Text.{page_text}
+use Rattle.command_ends.specs.Writing.{Answers}
+use Rattle.command_ends.specs.declared.ending.Ending.{Ending}
+use Rattle.command_ends.specs.declared.ending.Ending.TheVariants.{NoMemory}
+use Rattle.command_ends.specs.declared.ending.status.Status.{Status}
+use Rattle.command_ends.specs.declared.ending.subject.Subject.{Subject}
+use Rattle.command_ends.specs.declared.ending.subject.Subject.TheVariants.{Feed, Link}
 use Rattle.station_report.specs.declared.done.Done.{Done}
-use Rattle.crew_work.specs.declared.work.Orders.{Orders}
+use Rattle.feed_workers.specs.declared.crew.Orders.{Orders}
 use Rattle.station_report.specs.declared.text.Totals.{Totals}
 
 -- ---- what is reported

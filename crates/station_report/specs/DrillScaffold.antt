@@ -18,13 +18,13 @@ use Rattle.tick_units.specs.declared.verdicts.Kind.{Kind}
 use Rattle.station_report.specs.Crewing.{HasEach, causes_left}
 use Rattle.verdict_journal.specs.Journals.{State}
 use Rattle.station_report.specs.Drilling.{day_run, feed_line, is_differing, is_lone, is_refused, is_verdict, times}
-use Rattle.file_commands.specs.Endings.{status_of, status_line}
+use Rattle.command_ends.specs.Endings.{status_of, status_line}
 use Rattle.station_report.specs.Headline.{HasDueEntries, IsReported, due_in_all, full_cause}
-use Rattle.file_commands.specs.Text.{page_text}
-use Rattle.file_commands.specs.Writing.{Answers}
+use Rattle.command_ends.specs.Text.{page_text}
+use Rattle.command_ends.specs.Writing.{Answers}
 use Rattle.station_report.specs.declared.drill_text.Counts.{Counts}
-use Rattle.file_commands.specs.declared.ending.Ending.{Ending}
-use Rattle.file_commands.specs.declared.ending.status.Status.{Status}
+use Rattle.command_ends.specs.declared.ending.Ending.{Ending}
+use Rattle.command_ends.specs.declared.ending.status.Status.{Status}
 use Rattle.station_report.specs.declared.done.Done.{Done}
 
 -- ---- counts

@@ -13,12 +13,12 @@ use Rattle.station_values.specs.Station.{one_of_each, settings_of}
 use Rattle.system_fold.specs.Page.{page_of}
 use Rattle.tick_units.specs.declared.verdicts.Kind.{Kind}
 use Rattle.tick_units.specs.declared.verdicts.Kind.TheVariants.{Verdict, Lone, Differs, Refused}
-use Rattle.file_commands.specs.Effects.{Effect, EndsWith}
-use Rattle.file_commands.specs.Endings.{status_of, status_line}
+use Rattle.command_ends.specs.Effects.{Effect, EndsWith}
+use Rattle.command_ends.specs.Endings.{status_of, status_line}
 use Rattle.station_report.specs.Headline.{HasDueEntries, LogRun, StationRun, due_in_all, dues}
-use Rattle.file_commands.specs.Text.{page_text}
-use Rattle.file_commands.specs.declared.ending.Ending.{Ending}
-use Rattle.file_commands.specs.declared.ending.Ending.TheVariants.{Full, Whole}
+use Rattle.command_ends.specs.Text.{page_text}
+use Rattle.command_ends.specs.declared.ending.Ending.{Ending}
+use Rattle.command_ends.specs.declared.ending.Ending.TheVariants.{Full, Whole}
 
 -- ---- what is reported
 

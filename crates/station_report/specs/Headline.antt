@@ -4,14 +4,14 @@
 -- one than that link used before, or the kiss code that its sender gets, and authentic exactly where the one received is.
 -- Six records say it, and `IsServed` at the end has all of them.
 -- Read on in this order; each file names its source. docs/HEADLINE.md has examples, and what is trusted.
---   what an object reports, and its faults    outside_traits Told, Faults
---   how far a file is read                    file_reader Ends; log_decoder Decoding; feed_workers Logs, Leaps
+--   what an object reports, and its faults    outside_traits States, Faults
+--   how far a file is read                    file_reader Ends; radio_receiver Decoding; feed_workers Logs, Leaps
 --   how a server is polled                    poll_core Histories; feed_workers Polls, Polling
 --   which client passes                       packet_auth Keys; kiss_gate Nets, Clients, Gates
---   a station, its journal and its page       system_fold Settings; station_values Station; page_cell Claims; crew_work Lists; clock_page Page
---   the turns of a link                       responder Turns; crew_work Served; responder Serving
---   texts and statuses                        sink_text Writing; journal_entry Texts; system_fold Numbered; file_commands Writing, Endings, Text, Migrating
--- Taken on their tests: due_log (log_decoder Due), leap_seconds (leap_file Rows), page_of (system_fold Page),
+--   a station, its journal and its page       system_fold Settings; station_values Station; page_cell Claims; feed_workers Lists; clock_page Page
+--   the turns of a link                       responder Turns; feed_workers Served; responder Serving
+--   texts and statuses                        outside_traits Writing; journal_entry Texts; system_fold Numbered; command_ends Writing, Endings, Text; line_files Texts
+-- Taken on their tests: due_log (radio_receiver Due), leap_seconds (leap_file Rows), page_of (system_fold Page),
 -- judge (poll_core Histories), reply_to (sealed_reply Replies).
 use Rattle.std.specs.Prelude.{◌≡◌, ◌≢◌, ◌⊎◌, ℕ, suc, ◌*◌, ◌<◌, ◌≤◌, min, nat_lt, Bool, Option, None, Some, IfSome, is_some, List, [], ◌∷◌, ◌++◌, All, length, slice_get, codes, decimal, if◌then◌else◌}
 use Rattle.std.specs.List.{flat_map, sum_by}
@@ -20,7 +20,7 @@ use mathlib.Core.List.{IsPrefix}
 use Rattle.outside_traits.specs.States.{SourceState, SinkState, LinkState, NetEvent, Adds}
 use Rattle.feed_workers.specs.Leaps.{EndsLeap, due_leap, most_of_a_list}
 use Rattle.feed_workers.specs.Logs.{EndsLog}
-use Rattle.log_decoder.specs.Decoding.{most_of_a_log}
+use Rattle.radio_receiver.specs.Decoding.{most_of_a_log}
 use Rattle.feed_workers.specs.Polling.{EndsPolls}
 use Rattle.feed_workers.specs.Polls.{due_link}
 use Rattle.file_reader.specs.declared.log_end.LogEnd.{LogEnd}
@@ -30,26 +30,26 @@ use Rattle.feed_workers.specs.declared.work.PollEnd.TheVariants as poll
 use Rattle.journal_entry.specs.Texts.{spaced}
 use Rattle.journal_entry.specs.declared.entry.Entry.{Entry}
 use Rattle.kiss_gate.specs.Gates.{Gate}
-use Rattle.log_decoder.specs.Due.{due_log}
+use Rattle.radio_receiver.specs.Due.{due_log}
 use Rattle.page_cell.specs.Claims.{of_feed}
 use Rattle.responder.specs.Serving.{EndsBy}
 use Rattle.responder.specs.Turns.{Turn, events_of, readings_of, AreTurns, GoesOn, answered_of, dropped_of, torn_of, kissed_of, unkept_of, Rises}
 use Rattle.responder.specs.declared.served.End.{End}
 use Rattle.responder.specs.declared.served.End.TheVariants.{Count, LinkEnd, LinkFault}
 use Rattle.station_values.specs.Station.{RadioFields, ServerFields, StationFields, gate_of, leap_feed, settings_of}
-use Rattle.crew_work.specs.Lists.{Pairs}
-use Rattle.crew_work.specs.Served.{IsReadOf}
-use Rattle.crew_work.specs.declared.work.Orders.{Orders}
+use Rattle.feed_workers.specs.Lists.{Pairs}
+use Rattle.feed_workers.specs.Served.{IsReadOf}
+use Rattle.feed_workers.specs.declared.crew.Orders.{Orders}
 use Rattle.system_fold.specs.Page.{page_of}
 use Rattle.system_fold.specs.Settings.{IsJournal}
-use Rattle.file_commands.specs.Endings.{number_of, status_of, status_line}
-use Rattle.file_commands.specs.Migrating.{journal_text}
-use Rattle.file_commands.specs.Text.{page_text}
-use Rattle.file_commands.specs.Writing.{Answers}
-use Rattle.file_commands.specs.declared.ending.Ending.{Ending}
-use Rattle.file_commands.specs.declared.ending.Ending.TheVariants.{Whole, NotRead, WrongLine, Full, LinkFailed, Long}
-use Rattle.file_commands.specs.declared.ending.status.Status.{Status}
-use Rattle.file_commands.specs.declared.ending.subject.Subject.TheVariants.{Feed, Link}
+use Rattle.command_ends.specs.Endings.{number_of, status_of, status_line}
+use Rattle.line_files.specs.Texts.{journal_text}
+use Rattle.command_ends.specs.Text.{page_text}
+use Rattle.command_ends.specs.Writing.{Answers}
+use Rattle.command_ends.specs.declared.ending.Ending.{Ending}
+use Rattle.command_ends.specs.declared.ending.Ending.TheVariants.{Whole, NotRead, WrongLine, Full, LinkFailed, Long}
+use Rattle.command_ends.specs.declared.ending.status.Status.{Status}
+use Rattle.command_ends.specs.declared.ending.subject.Subject.TheVariants.{Feed, Link}
 
 -- what became of the log of a radio: what it reported when it was opened and when it was given back, the bytes that were read of it, and how
 -- its reading ended

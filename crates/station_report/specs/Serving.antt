@@ -11,17 +11,17 @@ use Rattle.station_values.specs.Station.{StationFields, feed_count, leap_feed, l
 use Rattle.feed_workers.specs.Leaps.{most_of_a_list}
 use Rattle.leap_file.specs.Rows.{bad_line}
 use Rattle.station_gear.specs.Gears.{wanted_by}
-use Rattle.file_commands.specs.Decoding.{IsGoodLog}
-use Rattle.crew_work.specs.declared.work.Orders.{Orders}
-use Rattle.file_commands.specs.Effects.{Effect, EndsWith}
-use Rattle.file_commands.specs.Endings.{status_of, status_line}
+use Rattle.line_files.specs.GoodLogs.{IsGoodLog}
+use Rattle.feed_workers.specs.declared.crew.Orders.{Orders}
+use Rattle.command_ends.specs.Effects.{Effect, EndsWith}
+use Rattle.command_ends.specs.Endings.{status_of, status_line}
 use Rattle.station_report.specs.Headline.{LeapRun, LogRun, StationRun, IsServed, due_in_all}
-use Rattle.file_commands.specs.Opening.{CannotOpen}
-use Rattle.file_commands.specs.StationFile.{EndsAtStation, HasStation, IsStation, most_of_a_station}
-use Rattle.file_commands.specs.declared.ending.Ending.{Ending}
-use Rattle.file_commands.specs.declared.ending.Ending.TheVariants.{NoMemory, NotOpened}
-use Rattle.file_commands.specs.declared.ending.subject.Subject.{Subject}
-use Rattle.file_commands.specs.declared.ending.subject.Subject.TheVariants.{Feed, Link, Station}
+use Rattle.command_ends.specs.Opening.{CannotOpen}
+use Rattle.command_ends.specs.StationFile.{EndsAtStation, HasStation, IsStation, most_of_a_station}
+use Rattle.command_ends.specs.declared.ending.Ending.{Ending}
+use Rattle.command_ends.specs.declared.ending.Ending.TheVariants.{NoMemory, NotOpened}
+use Rattle.command_ends.specs.declared.ending.subject.Subject.{Subject}
+use Rattle.command_ends.specs.declared.ending.subject.Subject.TheVariants.{Feed, Link, Station}
 
 -- what stands at a place of those that a station opens: the logs of the radios, the leap second file, the links of the servers, each by the
 -- number of its feed, and the serving links by their own numbers

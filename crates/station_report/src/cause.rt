@@ -4,12 +4,11 @@ ghost use Rattle.std.specs.List.{list_any};
 ghost use Rattle.std.specs.Option.{option_to_list};
 ghost use Rattle.station_report.specs.Crewing.{HasEach, HasLeast, any_full, causes_left, end_of};
 ghost use Rattle.station_report.specs.Headline.{IsReported, each_cause, full_cause, link_cause, log_cause, number_at, poll_cause};
-ghost use Rattle.file_commands.specs.declared.ending.Ending.{Ending};
+ghost use Rattle.command_ends.specs.declared.ending.Ending.{Ending};
 
 use crate::done::{Done, leap_feed};
-use crew_work::LinkWork;
-use feed_workers::{LogEnd, LogWork, PollEnd, PollWork};
-use file_commands::{Ending, Subject, status_by};
+use command_ends::{Ending, Subject, status_by};
+use feed_workers::{LinkWork, LogEnd, LogWork, PollEnd, PollWork};
 use responder::End;
 use station_values::Station;
 

@@ -2,7 +2,7 @@
 ghost use Rattle.std.specs.Prelude.{◌≡◌};
 ghost use Rattle.station_values.specs.Station.{leap_feed};
 
-use crew_work::Work;
+use feed_workers::Work;
 use station_values::Station;
 use verdict_journal::Journal;
 

@@ -4,17 +4,17 @@ ghost use Rattle.journal_entry.specs.declared.writer.TheConstants.{LINE_ROOM};
 ghost use Rattle.station_report.specs.Crewing.{FinishesDone, HasEach, line_of_work, totals_by, totals_of};
 ghost use Rattle.station_report.specs.Crewing.{lines_before_page, lines_of_journal};
 ghost use Rattle.station_report.specs.Headline.{each_text, end_word, link_line};
-ghost use Rattle.file_commands.specs.Reports.{Reports, status_in};
-ghost use Rattle.sink_text.specs.Writing.{WritesAll, WritesPrefix};
+ghost use Rattle.command_ends.specs.Reports.{Reports, status_in};
+ghost use Rattle.outside_traits.specs.Writing.{WritesAll, WritesPrefix};
 
 use crate::cause::ending_of;
 use crate::done::Done;
-use crew_work::LinkWork;
-use file_commands::{Line, Report, finish_page, write_numbered_line};
+use command_ends::{Line, Report, finish_page};
+use feed_workers::LinkWork;
 use journal_entry::{LINE_ROOM, TextWriter};
-use outside_traits::{Failed, Sink};
+use line_files::write_numbered_line;
+use outside_traits::{Failed, Sink, write_all};
 use responder::{End, Served};
-use sink_text::write_all;
 use station_values::Station;
 use verdict_journal::Journal;
 

@@ -8,6 +8,8 @@
 #[cfg(test)]
 mod command_words_tests;
 #[cfg(test)]
+mod cutter_tests;
+#[cfg(test)]
 mod decimal_text_tests;
 #[cfg(test)]
 mod file_reader_tests;
@@ -17,8 +19,6 @@ mod journal_entry_tests;
 mod leap_file_tests;
 #[cfg(test)]
 mod leap_list_tests;
-#[cfg(test)]
-mod line_cutter_tests;
 #[cfg(test)]
 mod message_tests;
 #[cfg(test)]
@@ -30,4 +30,4 @@ mod script_line_tests;
 #[cfg(test)]
 mod shared;
 #[cfg(test)]
-mod sink_text_tests;
+mod writing_tests;

@@ -1,6 +1,6 @@
 //! The messages on standard error, row by row.
 use crate::shared::{same, same_for};
-use file_commands::{Ending, Known, Outcome, Report, Subject};
+use command_ends::{Ending, Known, Outcome, Report, Subject};
 use host_links::Refusal;
 use standard_error::{
     BadLine, Beginning, Detail, LeapRow, LineSeeker, Message, Minutes, TomlFault, Watched,

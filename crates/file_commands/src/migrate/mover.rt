@@ -2,20 +2,19 @@
 ghost use Rattle.std.specs.Prelude.{◌≡◌, ◌+◌, ◌<◌, ◌≤◌, ◌^◌, List, [], None, length, take, MatchOption};
 ghost use Rattle.journal_entry.specs.declared.line.JournalLine.{JournalLine};
 ghost use Rattle.journal_entry.specs.declared.writer.TheConstants.{LINE_ROOM};
-ghost use Rattle.line_cutter.specs.Cutting.{line_in};
+ghost use Rattle.line_files.specs.Cutting.{line_in};
 ghost use Rattle.file_commands.specs.JournalTaking.{IsEven, IsMovedBy, journal_way, journal_taker};
-ghost use Rattle.file_commands.specs.LineTaking.{TakesLine, line_texts};
+ghost use Rattle.line_files.specs.LineTaking.{TakesLine, line_texts};
 ghost use Rattle.file_commands.specs.Moving.{HasMoved, MovesText};
-ghost use Rattle.file_commands.specs.Taking.{Fits};
+ghost use Rattle.line_files.specs.Taking.{Fits};
 ghost use Rattle.station_values.specs.Station.{StationFields, settings_of};
 ghost use Rattle.system_fold.specs.Settings.{SettingsFields};
 
-use crate::lines::write_numbered_line;
 use crate::migrate::lines::Mover;
-use crate::reading::{Gives, Line, Taker};
+use command_ends::Line;
 use file_reader::LogEnd;
 use journal_entry::{LINE_ROOM, read_line};
-use line_cutter::{Cut, LineCutter};
+use line_files::{Cut, Gives, LineCutter, Taker, write_numbered_line};
 use pulse_log::{BadLine, Taken};
 
 // The most lines of a journal.

@@ -1,10 +1,10 @@
 -- Where no memory is found for what the command is handed, nothing was opened.
 use Rattle.std.proofs.Common.{subst}
 use Rattle.outside_traits.specs.States.{SinkState}
-use Rattle.file_commands.specs.Endings.{status_of, status_line}
-use Rattle.file_commands.specs.Reports.{Reports, status_in}
-use Rattle.file_commands.specs.Writing.{Answers}
-use Rattle.file_commands.specs.declared.ending.Ending.TheVariants.{NoMemory}
+use Rattle.command_ends.specs.Endings.{status_of, status_line}
+use Rattle.command_ends.specs.Reports.{Reports, status_in}
+use Rattle.command_ends.specs.Writing.{Answers}
+use Rattle.command_ends.specs.declared.ending.Ending.TheVariants.{NoMemory}
 use Rattle.radio_engine.proofs.RunLaws.{run_unbegun}
 use Rattle.radio_ntpd.proofs.run_given.Goals as goal
 

@@ -1,21 +1,21 @@
 //! Cuts the lines of a script out of its bytes and plays them, one after the other.
 ghost use Rattle.std.specs.Prelude.{◌≡◌, ◌+◌, ◌-◌, ◌<◌, ◌≤◌, ◌^◌, List, [], None, Some, length, take, MatchResult};
 ghost use Rattle.journal_entry.specs.declared.writer.TheConstants.{LINE_ROOM};
-ghost use Rattle.file_commands.specs.LineTaking.{TakesLine, line_texts};
+ghost use Rattle.line_files.specs.LineTaking.{TakesLine, line_texts};
 ghost use Rattle.replay_command.specs.Playing.{IsPlayedBy, PlaysNext, script_taker, script_way};
-ghost use Rattle.file_commands.specs.Taking.{Fits};
-ghost use Rattle.line_cutter.specs.Cutting.{line_in};
-ghost use Rattle.script_player.specs.KeptPlayer.{HasPlayed, IsReady};
-ghost use Rattle.script_player.specs.Replay.{Played, ReplayCase};
+ghost use Rattle.line_files.specs.Taking.{Fits};
+ghost use Rattle.line_files.specs.Cutting.{line_in};
+ghost use Rattle.replay_command.specs.KeptPlayer.{HasPlayed, IsReady};
+ghost use Rattle.replay_command.specs.Replay.{Played, ReplayCase};
 
-use file_commands::{Gives, Line, Taker};
+use crate::{BoxedReceiver, Invalid, Player, write_outcome};
+use command_ends::Line;
 use file_reader::LogEnd;
 use journal_entry::LINE_ROOM;
-use line_cutter::{Cut, LineCutter};
+use line_files::{Cut, Gives, LineCutter, Taker};
 use pulse_log::{BadLine, Taken};
 use radio_receiver::Receiver;
 use script_line::read_line;
-use script_player::{BoxedReceiver, Invalid, Player, write_outcome};
 
 // A line of a script is too long at this byte.
 const TOO_LONG: usize = 4096;
@@ -92,8 +92,8 @@ impl Replayer<BoxedReceiver> {
 impl Taker for Replayer<BoxedReceiver> {
     ghost use Rattle.std.specs.Prelude.{◌-◌, ◌^◌};
     ghost use Rattle.replay_command.specs.Playing.{IsPlayedBy, script_says};
-    ghost use Rattle.script_player.specs.KeptPlayer.{IsReady};
-    ghost use Rattle.script_player.specs.Replay.{ReplayCase};
+    ghost use Rattle.replay_command.specs.KeptPlayer.{IsReady};
+    ghost use Rattle.replay_command.specs.Replay.{ReplayCase};
 
     ghost Case = { ReplayCase };
 

@@ -1,5 +1,5 @@
 -- As many receivers of each plan are in the rack as rounds have ended.
-use Rattle.receiver_rack.specs.Made.{HasOfEach}
+use Rattle.station_gear.specs.Made.{HasOfEach}
 use Rattle.engine_tests.proofs.runs.run_over.OwnLists.{own-1}
 use Rattle.engine_tests.proofs.runs.run_over.Given as goal
 

@@ -1,6 +1,6 @@
 -- What stays true in the loops of `radio::receive_piece`.
 use Rattle.std.proofs.Common.{◌≡◌, ℕ, List, None, ◌++◌, length}
-use Rattle.log_decoder.specs.Decoding.{IsReady, feed_of}
+use Rattle.radio_receiver.specs.Decoding.{IsReady, feed_of}
 use Rattle.page_cell.specs.declared.view.Claim.{Claim}
 use Rattle.feed_workers.specs.Receiving.{HasReceived, HasReceivedUpTo, Tuning}
 use Rattle.feed_workers.specs.Keeping.{IsOfFeed, share_of}

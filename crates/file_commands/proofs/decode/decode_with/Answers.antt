@@ -1,11 +1,12 @@
 -- What the search leaves open of `decode::decode_with`.
 use Rattle.std.proofs.Common.{subst}
-use Rattle.file_commands.specs.Endings.{status_of, status_line}
-use Rattle.file_commands.specs.Reports.{status_in}
-use Rattle.file_commands.specs.Writing.{Answers}
-use Rattle.file_commands.specs.declared.ending.Ending.{Ending}
-use Rattle.file_commands.proofs.DecodingLaws.{decoded_none, decodes_after, decodes_stopped}
-use Rattle.file_commands.proofs.ReportLaws.{reports_ended, reports_stopped}
+use Rattle.command_ends.specs.Endings.{status_of, status_line}
+use Rattle.command_ends.specs.Reports.{status_in}
+use Rattle.command_ends.specs.Writing.{Answers}
+use Rattle.command_ends.specs.declared.ending.Ending.{Ending}
+use Rattle.file_commands.proofs.DecodingLaws.{decodes_after, decodes_stopped}
+use Rattle.line_files.proofs.LogTakingLaws.{decoded_none}
+use Rattle.line_files.proofs.ReportLaws.{reports_ended, reports_stopped}
 use Rattle.file_commands.proofs.decode.decode_with.Goals as goal
 
 pub returns-in-Ok-clause-decodes : goal.returns-in-Ok-clause-decodes

@@ -2,8 +2,8 @@
 use Rattle.std.proofs.Common.{◌∙◌}
 use Rattle.file_commands.specs.JournalTaking.{journal_way, journal_taker}
 use Rattle.file_commands.specs.Migrating.{journal_of}
-use Rattle.file_commands.proofs.LineFileLaws.{runs_after, runs_stopped}
-use Rattle.file_commands.proofs.ReportLaws.{reports_ended, reports_stopped}
+use Rattle.line_files.proofs.LineFileLaws.{runs_after, runs_stopped}
+use Rattle.line_files.proofs.ReportLaws.{reports_ended, reports_stopped}
 use Rattle.file_commands.proofs.migrate.move_whole.Goals as goal
 
 pub returns-in-Ok-clause-runs : goal.returns-in-Ok-clause-runs

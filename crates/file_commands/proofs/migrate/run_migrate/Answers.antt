@@ -2,12 +2,12 @@
 use Rattle.std.proofs.Common.{ℕ, List, inr, subst}
 use Rattle.file_reader.specs.declared.reader.FileEnd.{FileEnd}
 use Rattle.station_reader.specs.Faults.{Says}
-use Rattle.file_commands.specs.Keeping.{OpensStation}
-use Rattle.file_commands.specs.StationFile.{IsObstacle}
-use Rattle.file_commands.proofs.LineFileLaws.{ends_at, file_tried}
+use Rattle.command_ends.specs.Keeping.{OpensStation}
+use Rattle.command_ends.specs.StationFile.{IsObstacle}
+use Rattle.line_files.proofs.LineFileLaws.{ends_at, file_tried}
 use Rattle.file_commands.specs.Migrating.{journal_of}
-use Rattle.file_commands.specs.declared.ending.subject.Subject.TheVariants.{Journal}
-use Rattle.file_commands.proofs.StationFileLaws.{reported_by}
+use Rattle.command_ends.specs.declared.ending.subject.Subject.TheVariants.{Journal}
+use Rattle.command_ends.proofs.StationFileLaws.{reported_by}
 use Rattle.file_commands.proofs.migrate.run_migrate.Goals as goal
 
 pub returns-in-Ok-prepare-clause-runs : goal.returns-in-Ok-prepare-clause-runs

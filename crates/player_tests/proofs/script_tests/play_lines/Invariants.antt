@@ -1,5 +1,5 @@
 -- What stays true in the loops of `tests::play_lines`.
-use Rattle.script_player.specs.KeptPlayer.{IsReady}
+use Rattle.replay_command.specs.KeptPlayer.{IsReady}
 use Rattle.player_tests.proofs.script_tests.play_lines.Given as goal
 
 abbrev pub invariant-loop-words : goal.invariant-loop-words

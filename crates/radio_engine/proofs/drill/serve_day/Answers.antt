@@ -2,8 +2,8 @@
 use Rattle.std.proofs.Common.{subst}
 use Rattle.memory_links.specs.Memory.{sure_state}
 use Rattle.station_values.specs.Station.{StationFields}
-use Rattle.crew_work.specs.Served.{seen, sights_of}
-use Rattle.crew_work.specs.declared.work.Orders.{Orders}
+use Rattle.feed_workers.specs.Served.{seen, sights_of}
+use Rattle.feed_workers.specs.declared.crew.Orders.{Orders}
 use Rattle.station_report.proofs.DrillLaws.{drilled}
 use Rattle.radio_engine.proofs.ServeLaws.{EndsAll, done_of}
 use Rattle.radio_engine.proofs.drill.serve_day.Goals as goal

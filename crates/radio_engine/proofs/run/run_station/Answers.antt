@@ -2,9 +2,9 @@
 use Rattle.std.proofs.Common.{◌⊎◌, List, ℕ, map, subst, sym}
 use Rattle.command_words.specs.Commands.{Asked, AskFor}
 use Rattle.outside_traits.specs.Faults.{Rose}
-use Rattle.file_commands.specs.Effects.{Effect, effect_of}
-use Rattle.file_commands.specs.Unopened.{Lacks, Refuses}
-use Rattle.file_commands.specs.declared.ending.status.Status.{Status}
+use Rattle.command_ends.specs.Effects.{Effect, effect_of}
+use Rattle.command_ends.specs.Unopened.{Lacks, Refuses}
+use Rattle.command_ends.specs.declared.ending.status.Status.{Status}
 use Rattle.radio_engine.specs.Run.{IsComplete, IsFaultless, Runs}
 use Rattle.radio_engine.proofs.run.run_station.Goals as goal
 

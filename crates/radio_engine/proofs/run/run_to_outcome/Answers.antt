@@ -1,9 +1,9 @@
 -- What the search leaves open of `run::run_to_outcome`.
 use Rattle.std.proofs.Common.{◌⊎◌, inr, refl, subst}
 use Rattle.command_words.specs.Commands.{Asked}
-use Rattle.file_commands.specs.Effects.{effect_of}
-use Rattle.file_commands.specs.Reports.{status_in}
-use Rattle.file_commands.specs.Unopened.{Lacks}
+use Rattle.command_ends.specs.Effects.{effect_of}
+use Rattle.command_ends.specs.Reports.{status_in}
+use Rattle.command_ends.specs.Unopened.{Lacks}
 use Rattle.radio_engine.specs.Run.{Runs}
 use Rattle.radio_engine.proofs.RunLaws.{lacks_done, runs_done}
 use Rattle.radio_engine.proofs.run.run_to_outcome.Goals as goal

@@ -2,10 +2,10 @@
 use Rattle.std.proofs.Common.{ℕ, List, inr, subst}
 use Rattle.file_reader.specs.declared.reader.FileEnd.{FileEnd}
 use Rattle.station_reader.specs.Faults.{Says}
-use Rattle.file_commands.specs.Keeping.{OpensStation}
-use Rattle.file_commands.specs.StationFile.{IsObstacle}
+use Rattle.command_ends.specs.Keeping.{OpensStation}
+use Rattle.command_ends.specs.StationFile.{IsObstacle}
 use Rattle.station_report.proofs.ServingLaws.{ends_at_station, ends_served, ends_unserved}
-use Rattle.file_commands.proofs.StationFileLaws.{reported_by}
+use Rattle.command_ends.proofs.StationFileLaws.{reported_by}
 use Rattle.radio_engine.proofs.serve.run_serve.Goals as goal
 
 pub returns-in-Err-clause-runs : goal.returns-in-Err-clause-runs

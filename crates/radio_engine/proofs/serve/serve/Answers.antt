@@ -1,8 +1,8 @@
 -- What the search leaves open of `serve::serve`: what is out may be given back, and what has become of the station.
 use Rattle.std.proofs.Common.{◌≡◌, ◌∙◌, ap, length, refl, rules, subst, sym}
 use Rattle.std.specs.Prelude.{Some, vec_len}
-use Rattle.crew_work.specs.Served.{seen, sights_of}
-use Rattle.file_commands.specs.declared.ending.Ending.TheVariants.{NotOpened}
+use Rattle.feed_workers.specs.Served.{seen, sights_of}
+use Rattle.command_ends.specs.declared.ending.Ending.TheVariants.{NotOpened}
 use Rattle.station_gear.specs.Gears.{numbers_of}
 use Rattle.station_gear.proofs.GearLaws.{are_out}
 use Rattle.station_report.specs.Crewing.{CannotServe}

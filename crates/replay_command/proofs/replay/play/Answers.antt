@@ -1,5 +1,5 @@
 -- What the search leaves open of `replay::play`.
-use Rattle.script_player.specs.Replay.{case_of}
+use Rattle.replay_command.specs.Replay.{case_of}
 use Rattle.replay_command.proofs.replay.play.Goals as goal
 
 pub returns-clause-replays : goal.returns-clause-replays

@@ -1,10 +1,10 @@
 -- What the search leaves open of `replay::play_whole`.
 use Rattle.std.proofs.Common.{Bool, ap, ◌∙◌}
-use Rattle.script_player.specs.Replay.{case_of}
+use Rattle.replay_command.specs.Replay.{case_of}
 use Rattle.replay_command.specs.Playing.{script_taker, script_way}
 use Rattle.replay_command.specs.Replaying.{replay_ending, script_of}
-use Rattle.file_commands.proofs.LineFileLaws.{runs_after, runs_stopped}
-use Rattle.file_commands.proofs.ReportLaws.{reports_ended, reports_stopped}
+use Rattle.line_files.proofs.LineFileLaws.{runs_after, runs_stopped}
+use Rattle.line_files.proofs.ReportLaws.{reports_ended, reports_stopped}
 use Rattle.replay_command.proofs.replay.play_whole.Goals as goal
 
 pub returns-in-Ok-clause-replays : goal.returns-in-Ok-clause-replays

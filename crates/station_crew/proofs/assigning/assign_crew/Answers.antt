@@ -3,9 +3,9 @@ use Rattle.std.proofs.Common.{rules, ◌≡◌, length, map, sym, ap, ◌∙◌,
 use Rattle.std.specs.Prelude.{IfSome, vec_len}
 use Rattle.std.specs.Option.{option_to_list}
 use Rattle.std.proofs.lemmas.List.{length-map}
-use Rattle.crew_work.proofs.ListLaws.{length-option-map, none_left, pairs_keep, pairs_length, three_taken}
+use Rattle.feed_workers.proofs.ListLaws.{length-option-map, none_left, pairs_keep, pairs_length, three_taken}
 use Rattle.station_crew.specs.Collecting.{file_of, leap_pass, link_of, log_of, poll_pass, radio_pass, serve_pass, server_link}
-use Rattle.crew_work.specs.Served.{IsBlank}
+use Rattle.feed_workers.specs.Served.{IsBlank}
 use Rattle.station_crew.proofs.assigning.assign_crew.Goals as goal
 
 pub assign_radios-requires-clause-blank : goal.assign_radios-requires-clause-blank

@@ -3,7 +3,7 @@ use Rattle.std.proofs.Common.{rules, ◌≡◌, ◌∙◌, ◌<◌, [], ◌∷�
 use Rattle.std.specs.Prelude.{Some, slice_get, vec_len}
 use Rattle.std.proofs.lemmas.List.{map-append}
 use Rattle.station_values.specs.Station.{ServerFields}
-use Rattle.crew_work.proofs.ListLaws.{first_removed, moved, take_one_more, reported_whole}
+use Rattle.feed_workers.proofs.ListLaws.{first_removed, moved, take_one_more, reported_whole}
 use Rattle.station_crew.specs.Collecting.{poll_pass, server_link, server_of}
 use Rattle.station_crew.proofs.assigning.assign_pollers.Goals as goal
 

@@ -3,7 +3,7 @@ use Rattle.std.proofs.Common.{rules, ◌≡◌, ◌∙◌, ◌∷◌, ◌<◌, [
 use Rattle.std.specs.Vec.Iter.{into_iter_items}
 use Rattle.std.proofs.lemmas.List.{nil_from_length}
 use Rattle.station_crew.specs.Collecting.{log_of, radio_pass}
-use Rattle.crew_work.proofs.ListLaws.{all_rest, first_removed, prefix_none, prefix_more, prefix_whole, moved}
+use Rattle.feed_workers.proofs.ListLaws.{all_rest, first_removed, prefix_none, prefix_more, prefix_whole, moved}
 use Rattle.station_crew.proofs.assigning.assign_radios.Goals as goal
 
 pub loop-log-init : goal.loop-log-init

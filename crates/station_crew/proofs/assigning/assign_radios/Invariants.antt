@@ -4,7 +4,7 @@ use Rattle.std.specs.Prelude.{All, vec_capacity, vec_len}
 use Rattle.std.specs.Vec.Iter.{into_iter_items, into_iter_len}
 use Rattle.station_crew.specs.Jobs.{IsAssigned}
 use Rattle.station_crew.specs.Collecting.{log_of, radio_pass}
-use Rattle.crew_work.specs.Lists.{PairsPrefix}
+use Rattle.feed_workers.specs.Lists.{PairsPrefix}
 use Rattle.station_crew.proofs.assigning.assign_radios.Given as goal
 
 abbrev pub invariant-loop-log : goal.invariant-loop-log

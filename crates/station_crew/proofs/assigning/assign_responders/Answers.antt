@@ -7,7 +7,7 @@ use Rattle.kiss_gate.specs.Gates.{Gate}
 use Rattle.packet_auth.specs.Keys.{keys_of}
 use Rattle.station_values.specs.Station.{gate_of}
 use Rattle.station_crew.specs.Collecting.{link_of, number_of, serve_pass}
-use Rattle.crew_work.proofs.ListLaws.{all_pushed, all_rest, first_removed, moved, numbered_more}
+use Rattle.feed_workers.proofs.ListLaws.{all_pushed, all_rest, first_removed, moved, numbered_more}
 use Rattle.station_crew.proofs.assigning.assign_responders.Goals as goal
 
 pub loop-link-preserved : goal.loop-link-preserved

@@ -3,7 +3,7 @@ use Rattle.std.proofs.Common.{rules, ◌≡◌, ◌++◌, length, map, ap, ◌�
 use Rattle.std.specs.Prelude.{vec_len}
 use Rattle.std.specs.Option.{option_to_list}
 use Rattle.std.proofs.lemmas.List.{length-map}
-use Rattle.crew_work.proofs.ListLaws.{at-most-one}
+use Rattle.feed_workers.proofs.ListLaws.{at-most-one}
 use Rattle.station_crew.specs.Collecting.{leap_pass, log_of, poll_pass, radio_pass, server_link}
 use Rattle.station_crew.proofs.collecting.collect_feeds.Goals as goal
 

@@ -1,7 +1,7 @@
 -- What the search leaves open of `informing::inform_all`.
 use Rattle.std.proofs.Common.{rules, ◌<◌, ◌≤◌, slice_index_or, length, ◌∙◌, subst}
 use Rattle.page_cell.specs.Passes.{Known, claim_of}
-use Rattle.crew_work.proofs.ListLaws.{reported_more, reported_all, same_set}
+use Rattle.feed_workers.proofs.ListLaws.{reported_more, reported_all, same_set}
 use Rattle.station_crew.proofs.informing.inform_all.Goals as goal
 
 pub loop-i-preserved : goal.loop-i-preserved

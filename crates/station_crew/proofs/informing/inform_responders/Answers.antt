@@ -7,9 +7,9 @@ use Rattle.std.proofs.lemmas.List.{nil_from_length}
 use Rattle.std.proofs.lemmas.List.Elements.{All-head}
 use Rattle.page_cell.specs.Passes.{Known}
 use Rattle.station_crew.specs.Collecting.{number_of}
-use Rattle.crew_work.specs.Lists.{Pairs}
+use Rattle.feed_workers.specs.Lists.{Pairs}
 use Rattle.station_crew.specs.Informing.{WasInformed}
-use Rattle.crew_work.proofs.ListLaws.{all_rest, prefix_none, prefix_more, prefix_whole, numbered_more}
+use Rattle.feed_workers.proofs.ListLaws.{all_rest, prefix_none, prefix_more, prefix_whole, numbered_more}
 use Rattle.station_crew.proofs.informing.inform_responders.Goals as goal
 
 pub loop-job-init : goal.loop-job-init

@@ -4,7 +4,7 @@ use Rattle.std.specs.Prelude.{All, vec_capacity, vec_len}
 use Rattle.std.specs.List.{range_with_len}
 use Rattle.std.specs.Vec.Iter.{into_iter_items, into_iter_len}
 use Rattle.station_crew.specs.Collecting.{number_of}
-use Rattle.crew_work.specs.Lists.{PairsPrefix}
+use Rattle.feed_workers.specs.Lists.{PairsPrefix}
 use Rattle.station_crew.specs.Informing.{WasInformed}
 use Rattle.station_crew.proofs.informing.inform_responders.Given as goal
 

@@ -10,12 +10,12 @@ use Rattle.page_cell.specs.Views.{new_claim}
 use Rattle.station_values.specs.Station.{gate_of, kind_of_radio, kind_of_server, leap_feeds}
 use Rattle.station_crew.proofs.FeedLaws.{feeds_keep, leap_served, may_receive, may_notice, may_poll, radios_served, seen_all, servers_served}
 use Rattle.station_crew.proofs.LinkLaws.{links_served, readers_are, served_twice}
-use Rattle.crew_work.proofs.ListLaws.{each_keeps, leap_feeds-length, length-is-some, pairs_keep, pairs_length}
+use Rattle.feed_workers.proofs.ListLaws.{each_keeps, leap_feeds-length, length-is-some, pairs_keep, pairs_length}
 use Rattle.station_crew.specs.Crews.{HasRoomToCollect, IsNewReader}
 use Rattle.station_crew.specs.Jobs.{HasServed, HasServedAgain}
 use Rattle.station_crew.specs.Collecting.{file_of, link_of, log_of, passes_of, serve_pass, server_link}
-use Rattle.crew_work.specs.Lists.{Pairs}
-use Rattle.crew_work.specs.Served.{LeapServed, LinksServed, RadiosServed, ServersServed, column_of, seen, service_of}
+use Rattle.feed_workers.specs.Lists.{Pairs}
+use Rattle.feed_workers.specs.Served.{LeapServed, LinksServed, RadiosServed, ServersServed, column_of, seen, service_of}
 use Rattle.station_crew.specs.Informing.{HasSeenAll, WasInformed}
 use Rattle.system_fold.specs.Settings.{IsJournal, IsKept, SettingsFields}
 use Rattle.verdict_journal.specs.Journals.{HasRead}

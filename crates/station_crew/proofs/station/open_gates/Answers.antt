@@ -2,7 +2,7 @@
 use Rattle.std.proofs.Common.{rules, ◌≡◌}
 use Rattle.kiss_gate.specs.Gates.{Gate}
 use Rattle.station_values.specs.Station.{gate_of}
-use Rattle.crew_work.proofs.ListLaws.{all_pushed}
+use Rattle.feed_workers.proofs.ListLaws.{all_pushed}
 use Rattle.station_crew.proofs.station.open_gates.Goals as goal
 
 pub loop-preserved : goal.loop-preserved

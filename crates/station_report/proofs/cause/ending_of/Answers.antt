@@ -4,11 +4,11 @@ use Rattle.std.specs.Prelude.{◌+◌, unwrap_or}
 use Rattle.std.specs.Option.{option_to_list}
 use Rattle.feed_workers.specs.declared.work.LogWork.{LogWork}
 use Rattle.feed_workers.specs.declared.work.PollWork.{PollWork}
-use Rattle.crew_work.specs.declared.work.LinkWork.{LinkWork}
+use Rattle.feed_workers.specs.declared.crew.LinkWork.{LinkWork}
 use Rattle.station_report.specs.Crewing.{any_full, causes_left, end_of}
 use Rattle.station_report.specs.Headline.{IsReported, each_cause, full_cause, link_cause, log_cause, poll_cause}
-use Rattle.file_commands.specs.declared.ending.Ending.{Ending}
-use Rattle.file_commands.specs.declared.ending.Ending.TheVariants.{Whole}
+use Rattle.command_ends.specs.declared.ending.Ending.{Ending}
+use Rattle.command_ends.specs.declared.ending.Ending.TheVariants.{Whole}
 use Rattle.station_report.proofs.CauseLaws.{reported_or_whole}
 use Rattle.station_report.proofs.cause.ending_of.Goals as goal
 

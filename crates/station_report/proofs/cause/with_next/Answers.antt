@@ -3,7 +3,7 @@ use Rattle.std.proofs.Common.{[], ◌∷◌, ◌++◌, Option, sym, subst}
 use Rattle.std.specs.Option.{option_to_list}
 use Rattle.station_report.specs.Crewing.{HasLeast}
 use Rattle.station_report.specs.Headline.{IsFirstOfLeast}
-use Rattle.file_commands.specs.declared.ending.Ending.{Ending}
+use Rattle.command_ends.specs.declared.ending.Ending.{Ending}
 use Rattle.station_report.proofs.CauseLaws.{least_of_two}
 use Rattle.station_report.proofs.cause.with_next.Goals as goal
 

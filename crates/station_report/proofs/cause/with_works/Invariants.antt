@@ -2,7 +2,7 @@
 use Rattle.std.proofs.Common.{◌≡◌, ◌+◌, List, drop}
 use Rattle.station_report.specs.Crewing.{HasLeast}
 use Rattle.station_report.specs.Headline.{each_cause}
-use Rattle.file_commands.specs.declared.ending.Ending.{Ending}
+use Rattle.command_ends.specs.declared.ending.Ending.{Ending}
 use Rattle.station_report.proofs.EachLaws.{HasLooked}
 use Rattle.station_report.proofs.cause.with_works.Given as goal
 

@@ -2,13 +2,13 @@
 use Rattle.std.proofs.Common.{◌++◌, append_assoc, sym, subst}
 use Rattle.clock_page.specs.Page.{PageFields}
 use Rattle.station_report.specs.DrillScaffold.{feed_lines}
-use Rattle.file_commands.specs.Endings.{status_of, status_line}
-use Rattle.file_commands.specs.Text.{page_text}
-use Rattle.file_commands.specs.Reports.{status_in}
-use Rattle.file_commands.specs.Writing.{Answers}
-use Rattle.file_commands.specs.declared.ending.status.Status.TheVariants.{WriteFault}
-use Rattle.file_commands.proofs.ReportLaws.{reports_more, reports_none}
-use Rattle.file_commands.proofs.WritingLaws.{answers_prefix, answers_more}
+use Rattle.command_ends.specs.Endings.{status_of, status_line}
+use Rattle.command_ends.specs.Text.{page_text}
+use Rattle.command_ends.specs.Reports.{status_in}
+use Rattle.command_ends.specs.Writing.{Answers}
+use Rattle.command_ends.specs.declared.ending.status.Status.TheVariants.{WriteFault}
+use Rattle.command_ends.proofs.ReportLaws.{reports_more, reports_none}
+use Rattle.command_ends.proofs.WritingLaws.{answers_prefix, answers_more}
 use Rattle.station_report.proofs.drill_text.finish_drilled.Goals as goal
 
 pub returns-in-Ok-clause-finishes : goal.returns-in-Ok-clause-finishes

@@ -1,7 +1,7 @@
 -- What the search leaves open of `drill::text::write_feed`.
 use Rattle.std.proofs.Common.{ℕ, List, subst}
-use Rattle.sink_text.specs.Writing.{WritesPrefix}
-use Rattle.sink_text.proofs.WritingLaws.{on_err_by}
+use Rattle.outside_traits.specs.Writing.{WritesPrefix}
+use Rattle.outside_traits.proofs.WritingLaws.{on_err_by}
 use Rattle.station_report.proofs.drill_text.write_feed.Goals as goal
 
 pub returns-clause-err : goal.returns-clause-err

@@ -4,8 +4,8 @@ use Rattle.std.specs.Prelude.{Result, Ok, Err, OnOk}
 use Rattle.std.proofs.lemmas.List.{append-nil}
 use Rattle.page_cell.specs.Claims.{of_feed}
 use Rattle.station_report.specs.Drilling.{feed_line}
-use Rattle.sink_text.specs.Writing.{WritesAll}
-use Rattle.sink_text.proofs.WritingLaws.{prefix_of_both, on_err, on_err_by, writes_prefix, writes_more}
+use Rattle.outside_traits.specs.Writing.{WritesAll}
+use Rattle.outside_traits.proofs.WritingLaws.{prefix_of_both, on_err, on_err_by, writes_prefix, writes_more}
 use Rattle.station_report.proofs.drill_text.write_feeds.Goals as goal
 
 on_ok_by : {T E P Q : Type 0} (r : Result T E) → (P → Q) → OnOk r P → OnOk r Q

@@ -2,15 +2,15 @@
 use Rattle.std.proofs.Common.{◌≡◌, List, ℕ, ◌++◌, append_assoc, ap, ◌∙◌, sym, subst}
 use Rattle.clock_page.specs.Page.{PageFields}
 use Rattle.station_report.specs.Crewing.{line_of_work}
-use Rattle.file_commands.specs.Endings.{status_of, status_line}
+use Rattle.command_ends.specs.Endings.{status_of, status_line}
 use Rattle.station_report.specs.Headline.{each_text}
-use Rattle.file_commands.specs.Migrating.{journal_text}
-use Rattle.file_commands.specs.Text.{page_text}
-use Rattle.file_commands.specs.Reports.{status_in}
-use Rattle.file_commands.specs.Writing.{Answers}
-use Rattle.file_commands.specs.declared.ending.status.Status.TheVariants.{WriteFault}
-use Rattle.file_commands.proofs.ReportLaws.{reports_more, reports_none}
-use Rattle.file_commands.proofs.WritingLaws.{answers_prefix, answers_more}
+use Rattle.line_files.specs.Texts.{journal_text}
+use Rattle.command_ends.specs.Text.{page_text}
+use Rattle.command_ends.specs.Reports.{status_in}
+use Rattle.command_ends.specs.Writing.{Answers}
+use Rattle.command_ends.specs.declared.ending.status.Status.TheVariants.{WriteFault}
+use Rattle.command_ends.proofs.ReportLaws.{reports_more, reports_none}
+use Rattle.command_ends.proofs.WritingLaws.{answers_prefix, answers_more}
 use Rattle.station_report.proofs.text.finish_served.Goals as goal
 
 regroup : (j l p s : List ℕ) → (j ++ l) ++ (p ++ s) ≡ (j ++ (l ++ p)) ++ s

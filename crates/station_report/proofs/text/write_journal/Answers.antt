@@ -3,8 +3,8 @@ use Rattle.std.proofs.Common.{◌≡◌, ℕ, ◌<◌, Some, List, ap, arith, le
 use Rattle.std.specs.Prelude.{IsSome, slice_get}
 use Rattle.std.specs.List.{flat_map}
 use Rattle.verdict_journal.specs.Journals.{numbered_of}
-use Rattle.sink_text.specs.Writing.{WritesAll, WritesPrefix}
-use Rattle.sink_text.proofs.WritingLaws.{on_err}
+use Rattle.outside_traits.specs.Writing.{WritesAll, WritesPrefix}
+use Rattle.outside_traits.proofs.WritingLaws.{on_err}
 use Rattle.station_report.proofs.EachLaws.{drop_got, none_later, some_at, written_all, written_prefix, written_more}
 use Rattle.station_report.proofs.JournalTextLaws.{line_of, lines-length, lines-text}
 use Rattle.station_report.proofs.text.write_journal.Goals as goal

@@ -2,10 +2,10 @@
 use Rattle.std.proofs.Common.{ℕ, List, ap, refl, subst}
 use Rattle.station_report.specs.Crewing.{line_of_work}
 use Rattle.station_report.specs.Headline.{each_text}
-use Rattle.file_commands.specs.Migrating.{journal_text}
-use Rattle.sink_text.specs.Writing.{WritesPrefix}
-use Rattle.sink_text.proofs.WritingLaws.{on_err, on_err_by}
-use Rattle.sink_text.proofs.WritingLaws.{prefix_of_more, writes_prefix}
+use Rattle.line_files.specs.Texts.{journal_text}
+use Rattle.outside_traits.specs.Writing.{WritesPrefix}
+use Rattle.outside_traits.proofs.WritingLaws.{on_err, on_err_by}
+use Rattle.outside_traits.proofs.WritingLaws.{prefix_of_more, writes_prefix}
 use Rattle.station_report.proofs.text.write_lines.Goals as goal
 
 pub returns-in_err-write_journal-clause-err : goal.returns-in_err-write_journal-clause-err

@@ -2,8 +2,8 @@
 use Rattle.std.proofs.Common.{◌≡◌, ℕ, ◌+◌, ◌<◌, List, arith, drop, length, rules, subst, suc}
 use Rattle.station_report.specs.Crewing.{line_of_work}
 use Rattle.station_report.specs.Headline.{each_text}
-use Rattle.sink_text.specs.Writing.{WritesAll, WritesPrefix}
-use Rattle.sink_text.proofs.WritingLaws.{on_err}
+use Rattle.outside_traits.specs.Writing.{WritesAll, WritesPrefix}
+use Rattle.outside_traits.proofs.WritingLaws.{on_err}
 use Rattle.station_report.proofs.EachLaws.{HasWritten, text_split, written_prefix, written_more}
 use Rattle.station_report.proofs.text.write_links.Goals as goal
 

@@ -2,8 +2,8 @@
 use Rattle.std.proofs.Common.{◌≡◌, ℕ, List, length, false, ap, sym, ◌∙◌, subst, arith}
 use Rattle.std.proofs.lemmas.List.{length-take}
 use Rattle.script_line.specs.declared.line.ScriptLine.{ScriptLine}
-use Rattle.script_player.specs.Replay.{is_valid, lines_of, played_so}
-use Rattle.script_player.specs.Texts.{outcome_text}
+use Rattle.replay_command.specs.Replay.{is_valid, lines_of, played_so}
+use Rattle.replay_command.specs.Texts.{outcome_text}
 use Rattle.replay_command.proofs.ScriptLaws.{some_line}
 use Rattle.replay_command.proofs.replay.replayer.play_text.Goals as goal
 

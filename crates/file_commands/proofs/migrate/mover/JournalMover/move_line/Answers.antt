@@ -1,8 +1,8 @@
 -- What the search leaves open of `migrate::mover::JournalMover::move_line`.
 use Rattle.std.proofs.Common.{ℕ, ◌+◌, List, Some, None, refl, subst, arith}
-use Rattle.line_cutter.specs.Cutting.{line_in}
+use Rattle.line_files.specs.Cutting.{line_in}
 use Rattle.station_values.specs.Station.{settings_of}
-use Rattle.file_commands.specs.LineTaking.{line_texts}
+use Rattle.line_files.specs.LineTaking.{line_texts}
 use Rattle.file_commands.specs.Moving.{MovesText}
 use Rattle.file_commands.proofs.MovingLaws.{moved_line, refused_line}
 use Rattle.file_commands.proofs.migrate.mover.JournalMover.move_line.Goals as goal

@@ -1,6 +1,6 @@
 -- What the search leaves open of `migrate::mover::JournalMoverTaker::at_end`.
 use Rattle.file_commands.specs.JournalTaking.{journal_way}
-use Rattle.file_commands.proofs.LineTakingLaws.{tail_bad, no_tail}
+use Rattle.line_files.proofs.LineTakingLaws.{tail_bad, no_tail}
 use Rattle.file_commands.proofs.MovingLaws.{moved_ends, some_room}
 use Rattle.file_commands.proofs.migrate.mover.JournalMoverTaker.at_end.Goals as goal
 

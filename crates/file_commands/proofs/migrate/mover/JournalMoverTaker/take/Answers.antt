@@ -1,7 +1,7 @@
 -- What the search leaves open of `migrate::mover::JournalMoverTaker::take`.
 use Rattle.std.proofs.Common.{◌≡◌, ◌+◌, ◌++◌, ℕ, [], Some, take, ap, subst, sym, ◌∙◌, arith}
 use Rattle.file_commands.specs.JournalTaking.{IsMovedBy, journal_way}
-use Rattle.file_commands.proofs.LineTakingLaws.{took_more, took_line, took_long, took_none}
+use Rattle.line_files.proofs.LineTakingLaws.{took_more, took_line, took_long, took_none}
 use Rattle.file_commands.proofs.MovingLaws.{limit_after, limit_within, moved_ends, none_later, some_room}
 use Rattle.file_commands.proofs.migrate.mover.JournalMoverTaker.take.Goals as goal
 

@@ -1,7 +1,7 @@
 -- What the search leaves open of `replay::replayer::Replayer+BoxedReceiver::play_line`.
 use Rattle.std.proofs.Common.{ℕ, ◌+◌, List, refl, subst}
-use Rattle.line_cutter.specs.Cutting.{line_in}
-use Rattle.file_commands.specs.LineTaking.{line_texts}
+use Rattle.line_files.specs.Cutting.{line_in}
+use Rattle.line_files.specs.LineTaking.{line_texts}
 use Rattle.replay_command.specs.Script.{says_played}
 use Rattle.replay_command.proofs.PlayingLaws.{played_line}
 use Rattle.replay_command.proofs.replay.replayer.Replayer+BoxedReceiver.play_line.Goals as goal

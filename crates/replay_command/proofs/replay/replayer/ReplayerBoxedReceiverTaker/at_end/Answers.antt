@@ -2,7 +2,7 @@
 use Rattle.std.proofs.Common.{◌<◌, ℕ, arith}
 use Rattle.replay_command.specs.Playing.{script_way}
 use Rattle.replay_command.specs.Script.{script_line_limit}
-use Rattle.file_commands.proofs.LineTakingLaws.{tail_bad, no_tail}
+use Rattle.line_files.proofs.LineTakingLaws.{tail_bad, no_tail}
 use Rattle.replay_command.proofs.replay.replayer.ReplayerBoxedReceiverTaker.at_end.Goals as goal
 
 some : (lines : ℕ) → 0 < script_line_limit lines

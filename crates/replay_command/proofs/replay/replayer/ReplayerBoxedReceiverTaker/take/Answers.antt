@@ -2,7 +2,7 @@
 use Rattle.std.proofs.Common.{◌<◌, ℕ, arith}
 use Rattle.replay_command.specs.Playing.{script_way}
 use Rattle.replay_command.specs.Script.{script_line_limit}
-use Rattle.file_commands.proofs.LineTakingLaws.{took_more, took_line, took_long}
+use Rattle.line_files.proofs.LineTakingLaws.{took_more, took_line, took_long}
 use Rattle.replay_command.proofs.replay.replayer.ReplayerBoxedReceiverTaker.take.Goals as goal
 
 some : (lines : ℕ) → 0 < script_line_limit lines

@@ -1,0 +1,12 @@
+-- What a reader has to believe, in this order: Endings (statuses and status lines), Writing (what is written, and what a failed
+-- write leaves), Effects (what a command does), Unopened (a command that opens nothing), Opening, Text (the line of a page),
+-- StationFile and Reports. Keeping is scaffolding.
+pub mod Endings
+pub mod Writing
+pub mod Effects
+pub mod Unopened
+pub mod Opening
+pub mod Text
+pub mod StationFile
+pub mod Reports
+pub mod Keeping

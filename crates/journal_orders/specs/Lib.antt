@@ -1,2 +1,0 @@
--- Read Orders (journals that differ only in order, and journals that name no leap second).
-pub mod Orders

@@ -1,2 +1,0 @@
--- Lemmas on texts that are written one after another.
-pub mod WritingLaws

@@ -1,2 +1,0 @@
--- What writing a text to a sink means.
-pub mod Writing

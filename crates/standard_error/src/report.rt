@@ -1,0 +1,207 @@
+//! What a run says on standard error: what came of it, and what its arguments and its files say, put together and written.
+
+use crate::{
+    Argument, BadLine, Detail, LineSeeker, Message, Minutes, NO_MEMORY_LINE, NO_MINUTE,
+    SAMPLE_BYTES, TomlFault, file_of, is_leap_file, no_minute_text, read_arguments, toml_fault,
+    value_of,
+};
+use command_ends::{Ending, Outcome, Report, STATION_LIMIT, Subject};
+use host_links::Refusal;
+use station_reader::{StationFault, read_station};
+use station_values::Station;
+use std::alloc::{AllocError, Global};
+use std::fs::{self, Files};
+use std::io::{Eprint, Read};
+
+// The most bytes of a file that are looked at for its bad line.
+const PIECE: usize = 4096;
+
+// The first bytes of a file. A pipe is not read a second time, since it gives its bytes once.
+fn beginning_of_file<R: Files + AllocGlobal>(rt: &R, name: &str, most: u64) -> Option<Vec<u8>> {
+    if !fs::metadata(rt, name).ok()?.is_file() {
+        return None;
+    }
+    let mut bytes = Vec::new(rt.alloc());
+    let file = fs::open(rt, name).ok()?;
+    file.take(most).read_to_end(&mut bytes).ok()?;
+    Some(bytes)
+}
+
+// The first bytes of the file that an option names.
+fn beginning_of<R: Files + AllocGlobal>(
+    rt: &R,
+    arguments: &[Argument<'_>],
+    option: &str,
+    most: u64,
+) -> Option<Vec<u8>> {
+    beginning_of_file(rt, value_of(arguments, option)?, most)
+}
+
+// The station of the arguments.
+pub(crate) fn station_of<R: Files + AllocGlobal>(
+    rt: &R,
+    arguments: &[Argument<'_>],
+) -> Option<Station> {
+    let text = beginning_of(rt, arguments, "station", STATION_LIMIT as u64)?;
+    read_station(rt.alloc(), text.as_slice()).ok()
+}
+
+// Where and why the station file of an outcome stops being TOML.
+fn find_toml_fault(alloc: Global, outcome: &Outcome) -> Option<TomlFault> {
+    match &outcome.known.station_text {
+        Some(text) => toml_fault(alloc, text.as_slice()),
+        None => None,
+    }
+}
+
+// Why a log gave no minute, where the arguments ask to decode one.
+fn find_hint<R: Files + AllocGlobal>(rt: &R, arguments: &[Argument<'_>]) -> Option<&'static str> {
+    let plan = value_of(arguments, "plan")?;
+    match beginning_of(rt, arguments, "log", SAMPLE_BYTES) {
+        Some(log) => Some(no_minute_text(rt.alloc(), plan, log.as_slice())),
+        None => Some(NO_MINUTE),
+    }
+}
+
+// Reads a file until the seeker has found its line, or to the end.
+fn seek<F: Read>(file: &mut F, seeker: &mut LineSeeker) -> Option<()> {
+    let mut piece = [0u8; PIECE];
+    for _ in 0..u64::MAX {
+        let count = file.read(&mut piece).ok()?;
+        if count == 0 || seeker.has_found() {
+            return Some(());
+        }
+        seeker.take(piece.get(..count)?);
+    }
+    None
+}
+
+// A line of a file, by its number from 1, with the line before it. A pipe is not read a second time.
+fn find_line<R: Files>(rt: &R, name: &str, number: u64) -> Option<LineSeeker> {
+    if !fs::metadata(rt, name).ok()?.is_file() {
+        return None;
+    }
+    let mut file = fs::open(rt, name).ok()?;
+    let mut seeker = LineSeeker::new(number);
+    seek(&mut file, &mut seeker)?;
+    Some(seeker)
+}
+
+// The file whose line is bad: one that the arguments name, or a feed of the station.
+fn bad_file<'a>(
+    arguments: &[Argument<'a>],
+    station: &'a Option<Station>,
+    subject: Subject,
+) -> Option<&'a str> {
+    match (subject, station) {
+        (Subject::Script, _) => value_of(arguments, "script"),
+        (Subject::Journal, _) => value_of(arguments, "journal"),
+        (_, Some(station)) => file_of(station, subject),
+        (_, None) => value_of(arguments, "log"),
+    }
+}
+
+// The condition that a line does not meet, where one can be named.
+fn fault_in(
+    seeker: &LineSeeker,
+    station: &Option<Station>,
+    subject: Subject,
+) -> Option<&'static str> {
+    match (subject, station) {
+        (Subject::Script | Subject::Journal, _) => seeker.plain_fault(),
+        (_, Some(station)) if is_leap_file(station, subject) => Some(seeker.leap_fault()),
+        _ => seeker.log_fault(),
+    }
+}
+
+// The bad line of a file, where the file can be read once more.
+fn find_bad_line<R: Files + AllocGlobal>(
+    rt: &R,
+    arguments: &[Argument<'_>],
+    station: &Option<Station>,
+    subject: Subject,
+    number: u64,
+) -> Option<BadLine> {
+    let name = bad_file(arguments, station, subject)?;
+    let seeker = find_line(rt, name, number)?;
+    Some(BadLine {
+        text: seeker.shown(rt.alloc()).ok()?,
+        why: fault_in(&seeker, station, subject),
+    })
+}
+
+// What is said of a run that was done, whose minutes are these.
+fn find_done<R: Files + AllocGlobal>(
+    rt: &R,
+    arguments: &[Argument<'_>],
+    minutes: Minutes,
+) -> Option<Detail> {
+    match minutes {
+        Minutes::None => Some(Detail::Hint(find_hint(rt, arguments)?)),
+        Minutes::Differ if value_of(arguments, "plan").is_some() => Some(Detail::Disagreement),
+        _ => None,
+    }
+}
+
+// What the files of a run say beside its outcome. `minutes` are those that were written.
+fn find_detail<R: Files + AllocGlobal>(
+    rt: &R,
+    arguments: &[Argument<'_>],
+    outcome: &Outcome,
+    minutes: Minutes,
+) -> Option<Detail> {
+    match &outcome.report {
+        Report::Ended(Ending::Whole) => find_done(rt, arguments, minutes),
+        Report::Ended(Ending::WrongLine(subject, number)) => Some(Detail::Line(find_bad_line(
+            rt,
+            arguments,
+            &outcome.known.station,
+            *subject,
+            *number,
+        )?)),
+        Report::Refused(StationFault::NotToml) => {
+            Some(Detail::Toml(find_toml_fault(rt.alloc(), outcome)?))
+        }
+        _ => None,
+    }
+}
+
+// Writes the message, where there is memory for it.
+fn try_report<R: Files + AllocGlobal + Eprint>(
+    rt: &R,
+    arguments: &[String],
+    are_text: bool,
+    outcome: Outcome,
+    refusal: Option<Refusal>,
+    minutes: Minutes,
+) -> Result<(), AllocError> {
+    let arguments = read_arguments(rt.alloc(), arguments)?;
+    let detail = find_detail(rt, arguments.as_slice(), &outcome, minutes);
+    let message = Message {
+        arguments: if are_text { Some(arguments) } else { None },
+        outcome,
+        refusal,
+        detail: detail.unwrap_or(Detail::Nothing),
+    };
+    let _ = eprint!(rt; "{message}");
+    Ok(())
+}
+
+/// Writes on standard error what a person needs to know of a run that has ended: what is wrong, where that can be named, or the
+/// help. Where there is not enough memory for it, the message says only that.
+pub fn write_report<R: Files + AllocGlobal + Eprint>(
+    rt: &R,
+    arguments: &Result<Vec<String>, AllocError>,
+    are_text: bool,
+    outcome: Outcome,
+    refusal: Option<Refusal>,
+    minutes: Minutes,
+) {
+    let arguments = match arguments {
+        Ok(arguments) => arguments.as_slice(),
+        Err(_) => &[],
+    };
+    if try_report(rt, arguments, are_text, outcome, refusal, minutes).is_err() {
+        let _ = eprint!(rt; "{NO_MEMORY_LINE}");
+    }
+}
