@@ -10,9 +10,8 @@ trap 'rm -rf "$work"' EXIT
 trap 'exit 1' INT TERM
 bad=0
 files=$(find . -name '*.py' ! -path './.git/*' ! -path '*/out/*' | LC_ALL=C sort)
-# Scripts that import one another by their bare names: each of these folders, and the simulation, is read by itself.
+# Scripts that import one another by their bare names: each of these folders is read by itself.
 scripts='^\./\(build\|feeders\|tools\)/'
-simulation='^\./checks/\(simulat\|test_simulat\|wrong_supervisors\)'
 
 # Reads the types of the files that match, whose imports begin at the folder $1.
 types() {
@@ -24,14 +23,12 @@ types() {
 }
 
 if command -v mypy > /dev/null; then
-    echo "$files" | grep -v "$scripts" | grep -v "$simulation" > "$work/packages"
+    echo "$files" | grep -v "$scripts" > "$work/packages"
     types . < "$work/packages"
     for folder in build feeders tools; do
         echo "$files" | grep "^\./$folder/" > "$work/scripts"
         types "$folder" < "$work/scripts"
     done
-    echo "$files" | grep "$simulation" > "$work/scripts"
-    types checks < "$work/scripts"
     grep -v ': note: ' "$work/mypy" >&2
     read_by=" mypy"
 else

@@ -1,10 +1,9 @@
-#!/usr/bin/env python3
 """Runs the supervisor's own loop through simulated histories of faults, in virtual time.
 
-    checks/simulate.py 200              # the seeds 0 to 199
-    checks/simulate.py 1 --first 47 --say --shorten
-    checks/simulate.py --history checks/simulation/found/*.txt   # those that found something
-    checks/simulate.py --changes 10000  # of run, without a fault: nothing grows
+    python3 -m checks.simulate 200              # the seeds 0 to 199
+    python3 -m checks.simulate 1 --first 47 --say --shorten
+    python3 -m checks.simulate --history checks/simulation/found/*.txt   # each found something
+    python3 -m checks.simulate --changes 10000  # of run, without a fault: nothing grows
 
 What is simulated and what is judged stands in simulation/__init__.py.
 Exit status: 0 nothing was found, 1 something was, 2 invalid arguments.
@@ -12,20 +11,15 @@ Exit status: 0 nothing was found, 1 something was, 2 invalid arguments.
 
 import argparse
 import multiprocessing
-import os
 import sys
 import time
 from pathlib import Path
 
-CHECKS = Path(__file__).resolve().parent
-KEEPER = os.environ.get("SIMULATED_KEEPER", str(CHECKS.parent))  # the tree whose keeper is played
-sys.path[:0] = [str(CHECKS), KEEPER]
-
-from keeper.supervisor.supervisor import Supervisor  # noqa: E402
-from simulation.changes import Changes  # noqa: E402
-from simulation.history import History, made, parse  # noqa: E402
-from simulation.play import Play, play  # noqa: E402
-from simulation.shorten import shorten  # noqa: E402
+from checks.simulation.changes import Changes
+from checks.simulation.history import History, made, parse
+from checks.simulation.play import Play, play
+from checks.simulation.shorten import shorten
+from keeper.supervisor.supervisor import Supervisor
 
 
 def told(history: History, played: Play, says: bool) -> str:

@@ -7,7 +7,7 @@
 set -eu
 cd "$(dirname "$0")/.."
 trap 'exit 1' INT TERM
-python3 -B checks/test_simulation.py
-python3 -B checks/simulate.py --history checks/simulation/found/*.txt
-python3 -B checks/simulate.py "${1:-200}" --first "${2:-0}" --span 600 --jobs "$(nproc)"
-python3 -B checks/simulate.py --changes 100
+python3 -B -m unittest checks.test_simulation
+python3 -B -m checks.simulate --history checks/simulation/found/*.txt
+python3 -B -m checks.simulate "${1:-200}" --first "${2:-0}" --span 600 --jobs "$(nproc)"
+python3 -B -m checks.simulate --changes 100

@@ -1,8 +1,9 @@
-"""Tests of checks/python.sh over folders with faults of their own.
+"""Tests of checks/python.sh over folders with faults of their own; and of how this repository's folders import one another.
 
     python3 -m unittest checks.test_python
 """
 
+import ast
 import os
 import pathlib
 import shutil
@@ -21,7 +22,7 @@ FAULTS = {
     "bench/unreached.py": ("mypy", "def f(x: int) -> int:\n    return x\n    x += 1\n"),
     "lab/model/inner.py": ("mypy", "x: int = ''\n"),
     "checks/other.py": ("mypy", "from lab.model.good import X\ny: str = X\n"),
-    "checks/simulation/own.py": ("mypy", "from simulation.good import X\ny: str = X\n"),
+    "checks/simulation/own.py": ("mypy", "from checks.simulation.good import X\ny: str = X\n"),
     "feeders/hidden.py": ("pyflakes3", TWICE),
     "keeper/tests/unknown.py": ("pyflakes3", "def f():\n    return nosuch\n"),
 }
@@ -74,3 +75,37 @@ class Checks(unittest.TestCase):
         self.assertEqual([line.split()[1] for line in said.splitlines()[:2]], ["mypy", "pyflakes3"])
         self.assertRegex(said.splitlines()[2], r"^python: \d+ files, read by: nothing$")
 
+
+# What takes a module by its file's place, and so hides from who reads imports which folder needs which.
+BY_PATH = {("sys", "path"), ("util", "spec_from_file_location"), ("runpy", "run_path"), ("machinery", "SourceFileLoader")}
+
+
+def imports_by_path(text: str) -> bool:
+    """Whether a module of this text imports by a path."""
+    for node in ast.walk(ast.parse(text)):
+        if isinstance(node, ast.Attribute):
+            base = node.value.attr if isinstance(node.value, ast.Attribute) else getattr(node.value, "id", "")
+            if (base, node.attr) in BY_PATH:
+                return True
+        if isinstance(node, ast.ImportFrom) and node.module:
+            if any((node.module.split(".")[-1], name.name) in BY_PATH for name in node.names):
+                return True
+    return False
+
+
+class ImportsByPath(unittest.TestCase):
+    def test_each_way_is_seen(self):
+        for text in (
+            "import sys\nsys.path.append('x')\n",
+            "from runpy import run_path as r\n",
+            "import importlib.util\nimportlib.util.spec_from_file_location('x', 'y')\n",
+        ):
+            self.assertTrue(imports_by_path(text), text)
+        self.assertFalse(imports_by_path("import os, sys\nprint(os.path, sys.argv, 'sys.path')\n"))
+
+    def test_two_modules_do(self):
+        """The tools find the model's page where both are installed; `install` asks what builds the program for its age."""
+        top = HERE.parent
+        files = [path for path in top.rglob("*.py") if "out" not in path.parts]
+        found = {str(path.relative_to(top)) for path in files if imports_by_path(path.read_text())}
+        self.assertEqual(found, {"tools/journal_text.py", "keeper/install.py"})

@@ -1,26 +1,23 @@
-#!/usr/bin/env python3
-"""Tests of the simulated host and of its judge, over a supervisor that is as small as can be."""
+"""Tests of the simulated host and of its judge, over a supervisor that is as small as can be.
+
+    python3 -m unittest checks.test_simulation
+"""
 
 import os
 import random
-import sys
 import unittest
-from pathlib import Path
 
-CHECKS = Path(__file__).resolve().parent
-sys.path[:0] = [str(CHECKS), str(CHECKS.parent)]
-
-from keeper.config import Settings  # noqa: E402
-from keeper.supervisor.host import Child, Host  # noqa: E402
-from simulation import shorten as short  # noqa: E402
-from simulation.disk import Disk, OpenFile  # noqa: E402
-from simulation.history import History, made, parse  # noqa: E402
-from simulation.host import SimHost  # noqa: E402
-from simulation.machine import STATE, Kind, Machine  # noqa: E402
-from simulation.opened import Fifo, FifoReader, Pipe, pair  # noqa: E402
-from simulation.play import play  # noqa: E402
-from simulation.sockets import COST, ROOM, Server  # noqa: E402
-from simulation.world import World  # noqa: E402
+from checks.simulation import shorten as short
+from checks.simulation.disk import Disk, OpenFile
+from checks.simulation.history import History, made, parse
+from checks.simulation.host import SimHost
+from checks.simulation.machine import STATE, Kind, Machine
+from checks.simulation.opened import Fifo, FifoReader, Pipe, pair
+from checks.simulation.play import play
+from checks.simulation.sockets import COST, ROOM, Server
+from checks.simulation.world import World
+from keeper.config import Settings
+from keeper.supervisor.host import Child, Host
 
 PLAIN = "command 5123 600 60 socket 5"
 

@@ -1,58 +1,42 @@
-#!/usr/bin/env python3
 """Plants each bug of simulation/wrong.py in a copy of the keeper, and sees that it is found: by its
 own history, or with --seeds by the first seeds.
 
-    checks/wrong_supervisors.py             # each by its history
-    checks/wrong_supervisors.py --seeds 1000 --only deaf
+    python3 -m checks.wrong_supervisors             # each by its history
+    python3 -m checks.wrong_supervisors --seeds 1000 --only deaf
 
 Exit status: 0 each was found, 1 one was not, 2 invalid arguments.
 """
 
 import argparse
-import multiprocessing
+import re
+import subprocess
 import sys
 import time
-from multiprocessing.connection import Connection
 from pathlib import Path
 
-CHECKS = Path(__file__).resolve().parent
-sys.path.insert(0, str(CHECKS))
+from checks.simulation.wrong import WRONG, Bug, planted
 
-from simulation.wrong import WRONG, Bug, planted  # noqa: E402
-
+TOP = Path(__file__).resolve().parent.parent
 SPAN = 900.0  # of a seed's history (s)
-
-
-def play_it(tree: str, text: str, seeds: int, out: Connection) -> None:
-    """In a process of its own: the keeper of a tree, through a history or through seeds. Sends by
-    what it was found, nothing where it wasn't."""
-    sys.path.insert(0, tree)
-    from keeper.supervisor.supervisor import Supervisor
-    from simulation.history import made, parse
-    from simulation.play import play
-    histories = [made(seed, SPAN) for seed in range(seeds)] if seeds else [parse(text)]
-    for place, history in enumerate(histories):
-        found = play(history, Supervisor).findings
-        if found:
-            out.send(f"{f'seed {place}: ' if seeds else ''}{found[0].rule} ({found[0].text})")
-            return
-    out.send("")
+FOUND = re.compile(r"^  \d+\.\d{3} (.*)$", re.MULTILINE)
 
 
 def tried(one: Bug, seeds: int) -> str:
-    """By what a bug was found; nothing where it wasn't."""
-    ours, theirs = multiprocessing.Pipe(duplex=False)
-    with planted(CHECKS.parent, one) as tree:
-        given = (str(tree), one.history(), seeds, theirs)
-        process = multiprocessing.Process(target=play_it, args=given)
-        process.start()
-        theirs.close()
-        try:
-            return str(ours.recv())
-        except EOFError:
-            raise ValueError("its process died") from None
-        finally:
-            process.join()
+    """By what a bug was found; nothing where it wasn't. Raises ValueError where it can't be
+    planted or simulate.py dies."""
+    with planted(TOP, one) as tree:
+        history = tree / "history"
+        history.write_text(one.history())
+        words = ["--history", str(history)]
+        if seeds:
+            words = [str(seeds), "--span", str(SPAN), "--until"]
+        done = subprocess.run([sys.executable, "-B", "-m", "checks.simulate", *words],
+                              cwd=tree, capture_output=True, text=True, check=False)
+    found = FOUND.search(done.stdout)
+    if done.returncode != (1 if found else 0):
+        raise ValueError(f"its simulation ended with {done.returncode}: {done.stderr[-300:]}")
+    seed = re.search(r"^(seed \d+), after", done.stdout, re.MULTILINE)
+    return f"{seed[1]}: {found[1]}" if found and seed else found[1] if found else ""
 
 
 def main() -> int:

@@ -14,7 +14,6 @@ import time
 from keeper.chosen_file import INSTALLED
 from keeper.config import Radio, Settings, opened
 from keeper.receiver import Finding, Level
-from keeper.supervisor.steady import PLACE
 
 CLOCKS = "/sys/devices/system/clocksource/clocksource0"
 GOOD_CLOCKS = ("tsc", "arch_sys_counter", "kvm-clock", "hyperv_clocksource_tsc_page", "xen",
@@ -90,14 +89,12 @@ def look_at_source(radio: Radio, place: int) -> Finding:
     return Level.WELL, f"{name}: {path} is there"
 
 
-def look_at_steady(radio: Radio, place: int, code: str = PLACE) -> list[Finding]:
-    """Whether a radio can be steadied that is to be, and is so once alone."""
+def look_at_steady(radio: Radio, place: int) -> list[Finding]:
+    """Whether a radio that is to be steadied is so once alone."""
     if not radio.steady:
         return []
     name = name_of(place, radio)
-    if not os.path.exists(code):
-        return [(Level.BAD, f"{name}: it can't be steadied: {code} isn't there")]
-    if radio.kind == "command" and os.path.basename(code) in radio.value:
+    if radio.kind == "command" and "steady.py" in radio.value:
         out = "take `steady.py` out of the command, so that the log has its pulses as they came"
         return [(Level.BAD, f"{name}: its command steadies it too: {out}")]
     when = "two minutes after they begin as well as can be"

@@ -6,7 +6,7 @@ and second it is.
 
 from dataclasses import dataclass
 
-from simulation.world import World
+from checks.simulation.world import World
 
 FIRST, MANY = 100_000, 1_800_000  # widths from the first on tell pulses apart (us)
 KEPT = 4000  # pulses of a radio that are known again

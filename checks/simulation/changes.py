@@ -2,9 +2,9 @@
 
 import gc
 
-from simulation.history import History
-from simulation.machine import Kind
-from simulation.play import Maker, Play
+from checks.simulation.history import History
+from checks.simulation.machine import Kind
+from checks.simulation.play import Maker, Play
 
 CYCLE = 2  # of a run (s)
 PULSES = ("Pulse", "Heard")

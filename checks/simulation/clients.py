@@ -4,7 +4,7 @@ from dataclasses import dataclass
 from typing import TYPE_CHECKING
 
 if TYPE_CHECKING:
-    from simulation.judge import Judge
+    from checks.simulation.judge import Judge
 
 WRONG = 0.02  # an answer is wrong from here on (s); a sleep of half of it isn't seen
 AWAKE = 0.1  # within which wrong answers end after a sleep (s)

@@ -7,8 +7,8 @@ import os
 import random
 from collections.abc import Iterator
 
-from simulation.opened import Fifo, Open
-from simulation.world import World
+from checks.simulation.opened import Fifo, Open
+from checks.simulation.world import World
 
 WRITE_BACK = 300.0  # what was written so long ago is on the disk without a sync (s)
 

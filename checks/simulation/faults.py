@@ -2,13 +2,13 @@
 
 from collections.abc import Callable, Sequence
 
-from simulation.helpers import Reporter
-from simulation.history import Event
-from simulation.machine import STATE, Machine
-from simulation.processes import Process
-from simulation.program import Run
-from simulation.radios import Receiver
-from simulation.refusals import OF_DISK
+from checks.simulation.helpers import Reporter
+from checks.simulation.history import Event
+from checks.simulation.machine import STATE, Machine
+from checks.simulation.processes import Process
+from checks.simulation.program import Run
+from checks.simulation.radios import Receiver
+from checks.simulation.refusals import OF_DISK
 
 OFF = 20.0  # the power is off for so long (s)
 

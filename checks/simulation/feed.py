@@ -2,11 +2,11 @@
 
 from typing import TYPE_CHECKING
 
-from simulation.air import Mark
-from simulation.opened import PipeReader
+from checks.simulation.air import Mark
+from checks.simulation.opened import PipeReader
 
 if TYPE_CHECKING:
-    from simulation.program import Run
+    from checks.simulation.program import Run
 
 MINUTES = 4  # after this many minutes that agree it has the time
 NEAR = 0.02  # pulses whose offsets differ by more don't agree (s)

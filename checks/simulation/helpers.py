@@ -1,7 +1,7 @@
 """The reporter."""
 
-from simulation.opened import PipeReader
-from simulation.processes import Process
+from checks.simulation.opened import PipeReader
+from checks.simulation.processes import Process
 
 
 class Reporter(Process):

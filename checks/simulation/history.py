@@ -8,8 +8,8 @@
 import random
 from dataclasses import dataclass, field
 
-from simulation.machine import Kind
-from simulation.refusals import CAUSES
+from checks.simulation.machine import Kind
+from checks.simulation.refusals import CAUSES
 
 WARM = 420.0  # the first fault comes after so long (s)
 CALMS = (72.0, 420.0)  # between bursts (s)

@@ -5,12 +5,12 @@ from collections import deque
 from collections.abc import Callable, Iterable, Mapping, Sequence
 from concurrent.futures import Future
 
+from checks.simulation.host_links import HostLinks
+from checks.simulation.machine import Machine
+from checks.simulation.processes import Ended, Process
+from checks.simulation.world import Killed
 from keeper.config import Settings
 from keeper.supervisor.host import Child, Task, do
-from simulation.host_links import HostLinks
-from simulation.machine import Machine
-from simulation.processes import Ended, Process
-from simulation.world import Killed
 
 TURN = 0.0251  # the loop waits no longer (s)
 TURNS = 3000  # in a second; more is a loop that spins

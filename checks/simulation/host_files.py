@@ -5,11 +5,11 @@ import os
 import stat
 from collections.abc import Callable
 
+from checks.simulation.disk import Inode, OpenFile
+from checks.simulation.machine import STATE, Machine
+from checks.simulation.opened import FifoReader, Open
+from checks.simulation.world import Killed
 from keeper.supervisor.host import Host
-from simulation.disk import Inode, OpenFile
-from simulation.machine import STATE, Machine
-from simulation.opened import FifoReader, Open
-from simulation.world import Killed
 
 WRITES = os.O_WRONLY | os.O_RDWR
 

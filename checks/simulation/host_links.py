@@ -1,8 +1,8 @@
 """The part of the simulated host that has pipes and sockets."""
 
-from simulation.host_files import HostFiles
-from simulation.opened import Pipe, PipeWriter, pair
-from simulation.sockets import COST, Client, Server
+from checks.simulation.host_files import HostFiles
+from checks.simulation.opened import Pipe, PipeWriter, pair
+from checks.simulation.sockets import COST, Client, Server
 
 OUTLET, INLET = 1 << 20, 1 << 16
 

@@ -3,14 +3,14 @@
 from dataclasses import dataclass
 from typing import TYPE_CHECKING
 
-from simulation.air import Mark
-from simulation.clients import GAP, Clients
-from simulation.kept import Kept
-from simulation.world import SEEN, World
+from checks.simulation.air import Mark
+from checks.simulation.clients import GAP, Clients
+from checks.simulation.kept import Kept
+from checks.simulation.world import SEEN, World
 
 if TYPE_CHECKING:
-    from simulation.machine import Machine
-    from simulation.program import Feed, Run
+    from checks.simulation.machine import Machine
+    from checks.simulation.program import Feed, Run
 
 WHOLE = 380  # pulses in a row after which the time can be had: four minutes that are whole, a
 #              minute until the first begins, and what a kill may take of a log

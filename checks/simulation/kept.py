@@ -3,11 +3,11 @@
 import re
 from typing import TYPE_CHECKING
 
-from simulation.air import Mark
+from checks.simulation.air import Mark
 
 if TYPE_CHECKING:
-    from simulation.judge import Judge
-    from simulation.program import Run
+    from checks.simulation.judge import Judge
+    from checks.simulation.program import Run
 
 LOST = 70.0  # of a log at most so much is lost at a power cut (s)
 ACCEPTED = 1.0  # a run that is ended sooner was looked at and not taken (s)

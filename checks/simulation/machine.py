@@ -5,19 +5,19 @@ import dataclasses
 from collections.abc import Mapping, Sequence
 from typing import Any
 
+from checks.simulation import helpers, processes
+from checks.simulation.air import Air
+from checks.simulation.disk import Disk
+from checks.simulation.judge import Judge
+from checks.simulation.opened import Open
+from checks.simulation.program import Run
+from checks.simulation.radios import BATCH, Radio, Receiver, Transmitter, Writer
+from checks.simulation.refusals import Refusals
+from checks.simulation.sockets import Server
+from checks.simulation.world import World
 from keeper.config import Radio as RadioSettings
 from keeper.config import Settings
 from keeper.errors import Fault
-from simulation import helpers, processes
-from simulation.air import Air
-from simulation.disk import Disk
-from simulation.judge import Judge
-from simulation.opened import Open
-from simulation.program import Run
-from simulation.radios import BATCH, Radio, Receiver, Transmitter, Writer
-from simulation.refusals import Refusals
-from simulation.sockets import Server
-from simulation.world import World
 
 STATE, RUNTIME, FEEDS = "/var/lib/radio", "/run/radio", "/srv/radio"
 PROGRAM = "/usr/bin/radio_ntpd"

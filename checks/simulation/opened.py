@@ -2,7 +2,7 @@
 
 from collections.abc import Callable
 
-from simulation.world import World
+from checks.simulation.world import World
 
 PIPE_BUF = 4096
 REACT = 0.0003  # how soon a process reads what was written for it (s)

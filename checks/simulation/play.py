@@ -4,14 +4,14 @@ import logging
 from collections.abc import Callable
 from typing import Protocol
 
+from checks.simulation import faults
+from checks.simulation.history import History
+from checks.simulation.host import SimHost
+from checks.simulation.judge import Finding
+from checks.simulation.machine import RUNTIME, Machine
+from checks.simulation.world import Killed
 from keeper.config import Settings
 from keeper.errors import Fault
-from simulation import faults
-from simulation.history import History
-from simulation.host import SimHost
-from simulation.judge import Finding
-from simulation.machine import RUNTIME, Machine
-from simulation.world import Killed
 
 AGAIN = 1.0  # after which systemd starts it again (s)
 CALM = 100.0  # without a fault before the end (s)

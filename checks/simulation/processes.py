@@ -3,8 +3,8 @@
 import signal
 from collections.abc import Callable, Sequence
 
-from simulation.opened import Open
-from simulation.world import World
+from checks.simulation.opened import Open
+from checks.simulation.world import World
 
 ENDS_SOON = 0.002  # how soon a process that got a signal is gone (s)
 

@@ -10,16 +10,16 @@ import tomllib
 from collections.abc import Sequence
 from typing import TYPE_CHECKING
 
-from simulation.air import Air
-from simulation.feed import MINUTES, NEAR, Feed
-from simulation.opened import Open, PairEnd, PipeReader
-from simulation.processes import Process
-from simulation.sockets import Server
-from simulation.texts import journal_of, reply_of
-from simulation.world import World
+from checks.simulation.air import Air
+from checks.simulation.feed import MINUTES, NEAR, Feed
+from checks.simulation.opened import Open, PairEnd, PipeReader
+from checks.simulation.processes import Process
+from checks.simulation.sockets import Server
+from checks.simulation.texts import journal_of, reply_of
+from checks.simulation.world import World
 
 if TYPE_CHECKING:
-    from simulation.judge import Judge
+    from checks.simulation.judge import Judge
 
 HEARINGS = 1_000_000
 TOLD = 10.0  # within which it is gone once it was told to end, whatever is wrong with it (s)

@@ -9,14 +9,14 @@ from collections.abc import Sequence
 from dataclasses import dataclass, field
 from typing import TYPE_CHECKING
 
-from simulation.air import Air
-from simulation.disk import Disk, Inode, OpenFile
-from simulation.opened import Fifo, Open
-from simulation.processes import Process
-from simulation.world import World
+from checks.simulation.air import Air
+from checks.simulation.disk import Disk, Inode, OpenFile
+from checks.simulation.opened import Fifo, Open
+from checks.simulation.processes import Process
+from checks.simulation.world import World
 
 if TYPE_CHECKING:
-    from simulation.judge import Judge
+    from checks.simulation.judge import Judge
 
 WRITTEN = 0.25  # how long after a second's start its line is written (s)
 BATCH = 5  # seconds that are written at once in calm times

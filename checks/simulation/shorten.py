@@ -3,7 +3,7 @@
 from collections.abc import Callable
 from dataclasses import replace
 
-from simulation.history import Event, History
+from checks.simulation.history import Event, History
 
 Fails = Callable[[History], bool]
 

@@ -2,11 +2,11 @@
 
 from typing import TYPE_CHECKING
 
-from simulation.opened import Open
-from simulation.world import World
+from checks.simulation.opened import Open
+from checks.simulation.world import World
 
 if TYPE_CHECKING:
-    from simulation.program import Run
+    from checks.simulation.program import Run
 
 ROOM = 212_992  # of a socket's queue, in bytes
 COST = 768  # of one datagram in it

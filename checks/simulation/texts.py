@@ -3,7 +3,7 @@
 import struct
 from collections.abc import Sequence
 
-from simulation.world import UNIX
+from checks.simulation.world import UNIX
 
 NTP = 2_208_988_800  # from 1900 to 1970 (s)
 

@@ -41,10 +41,10 @@ def often(event: str, count: int = 14, every: float = 3.0) -> str:
 
 @contextmanager
 def planted(top: Path, one: Bug) -> Iterator[Path]:
-    """A copy of the tree's keeper with the bug in it. Raises ValueError where a text that it
-    changes doesn't stand there once."""
+    """A copy of the tree's keeper with the bug in it, and of what simulates it. Raises ValueError
+    where a text that it changes doesn't stand there once."""
     with TemporaryDirectory() as folder:
-        for name in ("keeper", "feeders"):
+        for name in ("keeper", "feeders", "checks"):
             copytree(top / name, Path(folder) / name)
         path = Path(folder) / "keeper" / "supervisor" / f"{one.file}.py"
         text = path.read_text()

@@ -6,13 +6,13 @@ import logging
 from collections.abc import Callable
 from dataclasses import dataclass
 
+from feeders.steady import Steady
 from keeper.config import Radio
 from keeper.supervisor.clocks import Pause
 from keeper.supervisor.host import Host
 from keeper.supervisor.logs import PulseLog
 from keeper.supervisor.pulses import HISTORY, OLDEST, Lines, Pulse
 from keeper.supervisor.sources import Ended, source_of
-from keeper.supervisor.steady import steady
 from keeper.errors import sentence
 
 PAUSES = 1.0, 60.0  # the first and the longest pause before a source is begun again (s)
@@ -42,7 +42,7 @@ class Feed:
         self.host, self.number, self.radio, self.log, self.heard = host, number, radio, log, heard
         self.source = source_of(host, radio.kind, radio.value)
         self.lines = Lines()
-        self.steady = steady().Steady() if radio.steady else None
+        self.steady = Steady() if radio.steady else None
         self.recent: collections.deque[Heard] = collections.deque()
         self.state = "starting"
         self.pause = Pause(*PAUSES)
@@ -139,4 +139,4 @@ class Feed:
         now = int(self.host.monotonic() * 1e6)
         self.lines.last, self.lines.history = now, now + HISTORY
         self.recent.clear()
-        self.steady = steady().Steady() if self.steady else None
+        self.steady = Steady() if self.steady else None
