@@ -151,7 +151,7 @@ WRONG = (
         " or self.unsynced and now - self.synced >= SYNCED", "",
         "430 fade 0 20;530 cut", ends=540),
     bug("a log's name isn't synced", "logs", "                self.host.sync(self.folder)\n",
-        "                pass\n", "250 cut"),
+        "                pass\n", "200.2 cut"),
     bug("a journal isn't synced", "disk", "            if sync:\n                host.sync(",
         "            if not sync:\n                host.sync(", "400 cut", SHORT),
     bug("what was printed stays", "journals", "        self.host.remove(self.out)\n", "        pass\n", "",
