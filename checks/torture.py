@@ -2,6 +2,7 @@
 
     python3 -m checks.torture COUNT SECONDS [SEED]     COUNT fuzzed files of each kind, as far as the seconds go
     python3 -m checks.torture --one KIND NUMBER [SEED] writes one of them, for a look at what went wrong
+    python3 -m checks.torture --keeper SECONDS [SEED]  what the keeper and the feeders read (keeper_torture.py)
 
 A kind is a log of a plan, a script, a station, or a journal of either form (fuzzed_kinds.py). A file has the same spoils wherever it is
 made: they depend only on the seed, the kind and the number.
@@ -17,6 +18,7 @@ import sys
 import tempfile
 import time
 
+from checks import keeper_torture
 from checks.fuzzed_kinds import Kind, kinds
 from checks.limited_runner import LONGEST, Runner
 from checks.spoils import spoil
@@ -94,12 +96,15 @@ def judge_all(count: int, seconds: float, seed: int) -> int:
 def main() -> None:
     words = argparse.ArgumentParser(description=__doc__, formatter_class=argparse.RawDescriptionHelpFormatter)
     words.add_argument("--one", metavar="KIND")
+    words.add_argument("--keeper", action="store_true")
     words.add_argument("numbers", nargs="+", type=float)
     asked = words.parse_args()
-    least = 1 if asked.one else 2
+    least = 1 if asked.one or asked.keeper else 2
     if not least <= len(asked.numbers) <= least + 1:
         words.error(f"{least} or {least + 1} numbers")
     seed = int(asked.numbers[least]) if len(asked.numbers) > least else SEED
+    if asked.keeper:
+        sys.exit(keeper_torture.run(asked.numbers[0], seed) > 0)
     if asked.one:
         with tempfile.TemporaryDirectory() as folder:
             all_ = kinds(pathlib.Path(folder))

@@ -90,7 +90,8 @@ TYPES = {str: "a string", int: "a whole number", bool: "true or false", dict: "a
 
 def opened(path: str) -> BinaryIO:
     """A file for reading; the writer of a FIFO in its place isn't waited for. Raises OSError."""
-    return open(path, "rb", opener=lambda name, how: os.open(name, how | os.O_NONBLOCK))
+    name = os.fspath(path)  # a number would be a descriptor of ours
+    return open(name, "rb", opener=lambda name, how: os.open(name, how | os.O_NONBLOCK))
 
 
 class File:

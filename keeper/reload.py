@@ -46,7 +46,8 @@ def told(path: str) -> tuple[int, int, str]:
             facts = json.loads(file.read() or b"")
             pid, reloads, refused = int(facts["pid"]), int(facts["reloads"]), str(facts["refused"])
             is_its = os.stat(f"/proc/{pid:d}").st_uid == owner
-        except (LookupError, OSError, RecursionError, TypeError, ValueError) as error:
+        except (ArithmeticError, LookupError, OSError, RecursionError, TypeError,
+                ValueError) as error:
             raise Fault(f"{path} isn't of a keeper that runs: {error!r}") from error
     if not is_its:
         raise Fault(f"{path} names process {pid}, which is another user's")

@@ -55,7 +55,7 @@ class Reports:
             return float(told.get("paused", 0.0))
         except FileNotFoundError:
             return 0.0
-        except (OSError, ValueError, TypeError, AttributeError):
+        except (ArithmeticError, AttributeError, OSError, RecursionError, TypeError, ValueError):
             return self.host.realtime()
 
     def awaits(self) -> list[int]:

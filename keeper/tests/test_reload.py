@@ -25,7 +25,7 @@ class Told(unittest.TestCase):
     def test_what_is_none_is_refused_by_a_sentence(self) -> None:
         good = {"pid": os.getpid(), "reloads": 0, "refused": ""}
         texts = ["", "{", "[1]", "[" * 100_000, "3"]
-        pids: tuple[object, ...] = ("x", None, -1, 0, 2**40, [])
+        pids: tuple[object, ...] = ("x", None, -1, 0, 2**40, [], float("inf"), float("nan"))
         texts += [json.dumps({**good, "pid": pid}) for pid in pids]
         for text in texts:
             with self.subTest(text=text[:40]):

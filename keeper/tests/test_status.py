@@ -59,7 +59,8 @@ class Files(unittest.TestCase):
         radio = {**good["radios"][0], "name": 3}
         for odd in ([3], {"at": "x"}, {"at": 1e30}, {"at": 2e9}, {**good, "radios": [radio]},
                     {**good, "links": 5}, {**good, "notes": [7]}, {**good, "at": 1e400},
-                    {**good, "run": []}, {**good, "servers": [[1]]}):
+                    {**good, "run": []}, {**good, "servers": [[1]]},
+                    {**good, "leap_file": 1}):  # which would be our standard output
             with self.subTest(odd=str(odd)[:40]):
                 with open(os.path.join(self.folder, "service.json"), "w", encoding="utf-8") as file:
                     json.dump(odd, file)
