@@ -59,14 +59,23 @@ class Files(unittest.TestCase):
         radio = {**good["radios"][0], "name": 3}
         for odd in ([3], {"at": "x"}, {"at": 1e30}, {"at": 2e9}, {**good, "radios": [radio]},
                     {**good, "links": 5}, {**good, "notes": [7]}, {**good, "at": 1e400},
-                    {**good, "run": []}, {**good, "servers": [[1]]},
-                    {**good, "leap_file": 1}):  # which would be our standard output
+                    {**good, "run": []}, {**good, "servers": [[1]]}):
             with self.subTest(odd=str(odd)[:40]):
                 with open(os.path.join(self.folder, "service.json"), "w", encoding="utf-8") as file:
                     json.dump(odd, file)
                 with self.assertRaisesRegex(Fault, "service.json isn't of a keeper: "):
                     self.run_status()
                 self.assertEqual(self.run_status("--nagios")[0], 3)
+
+    def test_a_number_in_place_of_a_name_is_no_descriptor_of_ours(self):
+        mine = os.open(__file__, os.O_RDONLY)
+        self.addCleanup(os.close, mine)
+        odd = {**said_by_the_supervisor(self.folder), "at": time.time(), "leap_file": mine}
+        with open(os.path.join(self.folder, "service.json"), "w", encoding="utf-8") as file:
+            json.dump(odd, file)
+        with self.assertRaisesRegex(Fault, "service.json isn't of a keeper: "):
+            self.run_status()
+        os.fstat(mine)  # it is still open
 
     def test_status_in_each_form(self):
         now = time.time()
