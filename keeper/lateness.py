@@ -53,7 +53,8 @@ def minutes_of(pulses: list[Pulse], lines: Iterable[str], shift: float) -> list[
     added to the counter to have Unix seconds."""
     words = [line.split() for line in lines]
     found = [_minute(pulses, int(one[1]), int(one[3]) - EPOCH, shift) for one in words
-             if len(one) == 5 and one[2] == "verdict" and (one[1] + one[3]).isdecimal()]
+             if len(one) == 5 and one[2] == "verdict" and (one[1] + one[3]).isdecimal()
+             and len(one[1] + one[3]) < 30]
     return [one for one in found if one]
 
 

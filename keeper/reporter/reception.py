@@ -67,7 +67,8 @@ class Reception:
         none of a minute is passed over."""
         words = line.split()
         numbers = [words[1], *words[3:]] if len(words) > 3 else [""]
-        if not all(one.isascii() and one.isdigit() for one in numbers) or words[2] not in KINDS:
+        are_numbers = all(one.isascii() and one.isdigit() and len(one) < 20 for one in numbers)
+        if not are_numbers or words[2] not in KINDS:
             return
         shift = time.time() - time.monotonic() if unix is None else unix
         close = int(words[1]) / 1e6 + shift

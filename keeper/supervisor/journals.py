@@ -10,7 +10,8 @@ import re
 from keeper.supervisor import disk
 from keeper.supervisor.host import Host, Task
 
-LINK = re.compile(rb"link (\d+) answered (\d+) dropped (\d+) again (\d+) kissed (\d+) unkept \d+")
+LINK = re.compile(rb"link (\d{1,19}) answered (\d{1,19}) dropped (\d{1,19}) again (\d{1,19}) "
+                  rb"kissed (\d{1,19}) unkept \d+")
 STATUS = re.compile(rb"status \d+( .*)?")
 MOST = 1 << 26  # a journal that is longer isn't kept, in bytes
 END = 65536  # of a journal this has its links and its status, in bytes

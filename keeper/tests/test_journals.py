@@ -42,6 +42,11 @@ class Journals(unittest.TestCase):
         for text in (b"", b"status 0", b"j2 1 0 0 5 verd\n", TEXT[:-3]):
             self.assertEqual(journals.status_of(text), "")
 
+    def test_a_count_that_is_none_is_passed_over(self) -> None:
+        """As of a keeper that was killed: the next one begins all the same."""
+        journal = self.add(2, TEXT.replace(b"answered 9 ", b"answered " + b"9" * 5000 + b" "))
+        self.assertEqual((journal.status, journal.heard), ("status 7 link 1", [1]))
+
     def test_a_journal_and_its_counts(self) -> None:
         journal = self.add(3)
         self.turn()

@@ -40,7 +40,8 @@ class Lateness(unittest.TestCase):
 
     def test_other_lines_do_not_count(self):
         lines = ("", "0 1 lone 5", "0 1 refused 2", "0 1 differs 1 2 3", "status 0",
-                 "0 x verdict 1 0", "0 1 verdict -1 0")
+                 "0 x verdict 1 0", "0 1 verdict -1 0", f"0 {'9' * 5000} verdict 1 0",
+                 f"0 1 verdict {'9' * 400} 0")
         self.assertEqual(minutes_of([Pulse(1, 1)], lines, 0.0), [])
 
     def test_the_result(self):

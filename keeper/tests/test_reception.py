@@ -54,7 +54,8 @@ class Minutes(unittest.TestCase):
 
     def test_other_lines_are_passed_over(self) -> None:
         for line in ("", "status 0", "status 5 line 0 1", "0 x verdict 1 0", "0 1 verdict -5 0",
-                     "0 1 refused", "0 1 refused ²", "0 1 sample 1 2 3 4 5 6 7"):
+                     "0 1 refused", "0 1 refused ²", f"0 {'9' * 5000} verdict 3976257900 0",
+                     f"0 1 verdict {'9' * 400} 0", "0 1 sample 1 2 3 4 5 6 7"):
             self.reception.take(line, 1.0, 0.0)
         self.assertEqual(self.radio, RadioState(plan="dcf", delay=0.002))
 
