@@ -26,7 +26,8 @@ LANES = (
     ("checks/feeders.sh", "checks/tests.sh bench build checks dev feeders lab tools", "checks/torture.sh 300 15"),
     ("checks/simulation.sh",),
     ("checks/tests.sh keeper", "checks/model.sh", "checks/service.sh", "checks/python.sh"),
-    ("checks/examples.sh", "checks/messages.sh", "checks/serve.sh", "checks/clients.sh", "checks/hostile.sh", "checks/fifo.sh"),
+    ("checks/same_bytes.sh", "checks/examples.sh", "checks/messages.sh", "checks/serve.sh", "checks/clients.sh", "checks/hostile.sh",
+     "checks/fifo.sh"),
 )
 ENDS = 10.0  # for a check that was told to end, in seconds
 
