@@ -140,6 +140,13 @@ class Changes(Quiet):
         self.assertEqual(self.at(1004, leap=0), before)
         self.assertEqual(self.at(1020, leap=3), [*before, "time-lost"])
 
+    def test_a_clock_that_is_set_back_holds_no_alarm_off(self):
+        """A run died an hour and a second before another one; the clock lost a day between."""
+        self.assertIn("run-died", self.run_begins(2, "died", 100_000.0))
+        self.alarms.move(-86400.0)
+        self.state.alarms.clear()
+        self.assertIn("run-died", self.run_begins(3, "died", 100_000.0 + 3601 - 86400))
+
     def test_a_radio_that_was_unheard_before_the_reporter_is_heard_again(self):
         """One that is started again raises neither twice, and misses none."""
         self.alarms.has_time = False

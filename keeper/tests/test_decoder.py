@@ -58,6 +58,16 @@ class Decoders(unittest.TestCase):
         self.turn_until(decoder, lambda: self.lines)
         self.assertEqual(self.lines, ["0 5 verdict 6"])
 
+    def test_half_a_line_of_one_that_ended_is_dropped(self):
+        decoder = self.decoder("#!/bin/sh\nprintf '0 1 verd'\n")
+        decoder.give(b"1 2\n", 100.0)
+        self.turn_until(decoder, lambda: decoder.child is None)
+        with open(self.program, "w", encoding="ascii") as file:
+            file.write(ECHO)
+        decoder.give(b"5 6\n", 100.0 + PAUSE)
+        self.turn_until(decoder, lambda: self.lines)
+        self.assertEqual(self.lines, ["0 5 verdict 6"])
+
     def test_one_that_reads_nothing_does_not_hold_us_up(self):
         decoder = self.decoder(DEAF)
         began = time.monotonic()

@@ -1,9 +1,11 @@
 """Which delay follows from a radio's minutes, by made-up radios."""
 
+import math
 import random
+import statistics
 import unittest
 
-from keeper.lateness import Minute, Result, minutes_of, result, sentences
+from keeper.lateness import Minute, Result, error_of, minutes_of, result, sentences
 from keeper.supervisor.pulses import Pulse
 
 EPOCH = 2208988800
@@ -37,6 +39,18 @@ class Lateness(unittest.TestCase):
                 pulses.append(Pulse(5_000_000 + second * 1_000_000 + 34_000 + part, 100_000))
         (one,) = minutes_of(pulses, [f"0 65034000 verdict {1065 + EPOCH} 0"], 1000.0)
         self.assertAlmostEqual(one.late, 0.034)
+
+    def test_the_closing_mark_is_one_of_its_minute(self):
+        (one,) = minutes_of([Pulse(65_034_000, 100_000)], [f"0 65034000 verdict {1065 + EPOCH} 0"],
+                            1000.0)
+        self.assertAlmostEqual(one.late, 0.034)
+
+    def test_the_standard_error_of_a_median(self):
+        """Of normal values: by the root of half a pi more than a mean's, and the median distance
+        from the median is the quartile of a normal distribution."""
+        sigma = 2.0 / statistics.NormalDist().inv_cdf(0.75)  # 0 to 8 lie 2 off 4 in the median
+        due = math.sqrt(math.pi / 2) * sigma / 3
+        self.assertAlmostEqual(error_of([float(one) for one in range(9)]), due, places=3)
 
     def test_other_lines_do_not_count(self):
         lines = ("", "0 1 lone 5", "0 1 refused 2", "0 1 differs 1 2 3", "status 0",

@@ -8,6 +8,7 @@ import tempfile
 import threading
 import time
 import unittest
+from unittest import mock
 
 from keeper import lock
 from keeper.supervisor.host import Host
@@ -45,6 +46,18 @@ class Locks(unittest.TestCase):
         self.assertTrue(lock._is_listed(path))
         os.close(taken)
         self.assertFalse(lock._is_listed(path))
+
+    def test_another_files_lock_in_that_list_is_none(self):
+        """Its inode may end with the digits of ours."""
+        path = os.path.join(self.folder, lock.NAME)
+        os.close(lock.take(self.host, self.folder))
+        inode = os.stat(path).st_ino
+        for words, due in ((f"FLOCK ADVISORY WRITE 7 fe:01:{inode} 0 EOF", True),
+                           (f"FLOCK ADVISORY WRITE 7 fe:01:1{inode} 0 EOF", False),
+                           (f"POSIX ADVISORY WRITE 7 fe:01:{inode} 0 EOF", False)):
+            listed = mock.mock_open(read_data=f"1: {words}\n2: -> short\n")
+            with mock.patch("builtins.open", listed):
+                self.assertEqual(lock._is_listed(path), due, words)
 
     def test_one_who_looks_at_it_keeps_none_from_starting(self):
         os.close(lock.take(self.host, self.folder))

@@ -102,12 +102,12 @@ class Sentences(unittest.TestCase):
         """A FIFO is opened in the middle of a line; where each third line is bad something is
         wrong."""
         marks = [(one * 1_000_000, 200_000 if one % 3 else 100_000) for one in range(20, 30)]
-        for bad, level in ((1, Level.NOTE), (3, Level.BAD)):
+        for bad, count, level in ((1, 10, Level.NOTE), (3, 10, Level.BAD), (1, 5, Level.NOTE)):
             lines = [b"%d 0\n" % start if place < bad else b"%d %d\n" % (start, width)
-                     for place, (start, width) in enumerate(marks)]
-            found = judge_log(looked_at(marks, lines), "dcf")
-            self.assertEqual(found[0], (level, f"{bad} of 10 lines are bad, and the keeper leaves "
-                                        "them out; the first: '20000000 0': its width is 0"))
+                     for place, (start, width) in enumerate(marks[:count])]
+            found = judge_log(looked_at(marks[:count], lines), "dcf")
+            self.assertEqual(found[0], (level, f"{bad} of {count} lines are bad, and the keeper "
+                                        "leaves them out; the first: '20000000 0': its width is 0"))
 
 
 if __name__ == "__main__":

@@ -129,6 +129,23 @@ class Logs(Folder):
         gaps = [after - before for before, after in zip(synced, synced[1:])]
         self.assertLess(max(gaps), 60)
 
+    def test_over_midnight_both_days_are_put_on_the_disk(self) -> None:
+        log, synced = self.log(), []
+        self.add(log, 1)
+        self.host.now += 60.0
+        with mock.patch.object(self.host, "sync", synced.append):
+            log.add([Pulse(2, 1)])
+            self.host.ahead += DAY
+            log.add([Pulse(3, 1)])
+            log.turn(self.host.now)
+            made = [one for one in synced if isinstance(one, str)]
+        self.assertEqual((made, len(synced)), ([str(self.folder)], 3))  # the new name, two logs
+
+    def test_a_start_ahead_of_the_counter_is_not_read_back(self) -> None:
+        now = int(self.host.now * 1e6)
+        (self.folder / NAME).write_bytes(b"%d 1\n%d 1\n" % (now, now + 1))
+        self.assertEqual([one.start for one in self.log().last_pulses()], [now])
+
     def test_what_was_logged_of_this_counter_and_source_is_read_back(self) -> None:
         now = int(self.host.now * 1e6)
         log = self.log()

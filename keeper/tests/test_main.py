@@ -41,8 +41,10 @@ class CommandLine(unittest.TestCase):
 
     def started(self, *words, **how):
         """The same by the script itself."""
+        # With PYTHONUNBUFFERED nothing would be left for the end.
+        env = {name: value for name, value in os.environ.items() if name != "PYTHONUNBUFFERED"}
         done = subprocess.run([KEEPER, *words], cwd=self.folder, stderr=subprocess.PIPE, text=True,
-                              timeout=60, **how)
+                              timeout=60, env=env, **how)
         self.assertNotIn("Traceback", done.stderr)
         return done
 

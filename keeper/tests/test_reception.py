@@ -87,6 +87,14 @@ class Minutes(unittest.TestCase):
         self.reception.renew(MINUTE + 86400 + 5)
         self.assertEqual((self.radio.verdicts_hour, self.radio.recent), (1, {"verdict": 1}))
 
+    def test_what_was_counted_moves_with_the_clock(self) -> None:
+        """The clock was an hour slow: a minute that is told again is known all the same."""
+        self.reception.take(LINE, MINUTE + 1, UNIX)
+        later = Reception(self.radio, counted=MINUTE + 5)
+        later.move(3600.0)
+        later.take(LINE, MINUTE + 3610, UNIX + 3600)
+        self.assertEqual(sum(one.verdict for one in self.radio.reception), 1)
+
     def test_a_reporter_that_begins_anew_goes_on_in_the_same_quarter(self) -> None:
         """It is told again what the one before it has counted."""
         self.reception.take(LINE, MINUTE + 1, UNIX)

@@ -1,12 +1,15 @@
 """What `reload` believes of the file of a keeper that runs."""
 
+import argparse
 import json
 import os
 import pathlib
+import signal
 import tempfile
 import unittest
 from unittest import mock
 
+from keeper import reload
 from keeper.errors import Fault
 from keeper.reload import told
 
@@ -40,6 +43,39 @@ class Told(unittest.TestCase):
         with mock.patch("os.fstat", lambda what: mock.Mock(wraps=real(what), st_uid=4711)):
             with self.assertRaisesRegex(Fault, "names process 1, which is another user's"):
                 told(str(self.path))
+
+
+class Asked(unittest.TestCase):
+    """`reload` by what the keeper's file says after each look."""
+
+    def reload(self, *found: tuple[int, int, str]) -> int:
+        parts = {"told": mock.Mock(side_effect=found), "keeper_runs": lambda settings: True,
+                 "chosen": str, "LOOK": 0.0}
+        settings = mock.Mock(runtime="/run/radio_ntpd")
+        with mock.patch.multiple(reload, **parts), mock.patch("os.kill") as kill:
+            with mock.patch.object(reload.config, "load", return_value=settings):
+                try:
+                    return reload.main(argparse.Namespace(config="keeper.toml"))
+                finally:
+                    kill.assert_called_once_with(77, signal.SIGHUP)
+
+    def test_it_waits_until_the_keeper_has_read_both(self) -> None:
+        self.assertEqual(self.reload((77, 3, "x"), (77, 3, "x"), (77, 4, "")), 0)
+
+    def test_a_file_that_is_refused(self) -> None:
+        with self.assertRaisesRegex(Fault, "^/k/keeper.toml: no$") as caught:
+            self.reload((77, 0, ""), (77, 0, ""), (77, 1, "/k/keeper.toml: no"))
+        self.assertEqual(caught.exception.status, 78)
+
+    def test_a_keeper_that_ends_meanwhile(self) -> None:
+        with self.assertRaisesRegex(Fault, "^the keeper ended$") as caught:
+            self.reload((77, 0, ""), (78, 0, ""))
+        self.assertEqual(caught.exception.status, 71)
+
+    def test_a_keeper_that_says_nothing(self) -> None:
+        with mock.patch.object(reload, "WAIT", 0.0):
+            with self.assertRaisesRegex(Fault, "^the keeper says nothing within 0 s$"):
+                self.reload((77, 0, ""))
 
 
 if __name__ == "__main__":

@@ -4,8 +4,12 @@ import os
 import pathlib
 import tempfile
 import unittest
+from unittest import mock
 
-from keeper.supervisor.reports import FACTS, Reports
+from keeper.ntp import EPOCH, Answer
+from keeper.supervisor.reports import FACTS, Reports, _link
+from keeper.supervisor.service import Service
+from keeper.supervisor.watchdog import Link
 from keeper.tests.fake_host import FakeHost
 
 
@@ -36,6 +40,22 @@ class Before(unittest.TestCase):
         self.path.unlink()
         os.mkdir(self.path)
         self.assertEqual(self.reports.paused_before(), self.host.realtime())
+
+
+class Links(unittest.TestCase):
+    def test_a_link_has_an_offset_where_it_has_the_time(self) -> None:
+        stamp = 1_700_000_000.0 + EPOCH
+        service = mock.Mock(spec=Service, requests={123: (7, 0.5)})
+        for leap, due in ((0, 0.25), (3, 0.0)):
+            said = Answer(leap, 1, "DCF", 0.0, 0.01, stamp, 1, stamp, stamp)
+            link = Link(123, asked_at=50.0, answered_at=50.5, last=said, came_unix=1.7e9,
+                        offset=0.25)
+            told = _link(link, service, 1.7e9 - 50.5, 1.7e9)
+            self.assertEqual(told["offset"], due)
+            self.assertEqual((told["answered_at"], told["reference_time"]), (1.7e9, 1.7e9))
+            self.assertEqual((told["requests"], told["requests_per_second"]), (7, 0.5))
+        told = _link(Link(123), service, 1.7e9, 1.7e9)
+        self.assertEqual((told["asked_at"], told["answered_at"]), (0.0, 0.0))  # never
 
 
 if __name__ == "__main__":

@@ -67,8 +67,9 @@ class Reloads(Case):
 
     def test_another_folder_needs_a_new_start(self) -> None:
         self.begin()
-        self.reload(self.settings(folder="/elsewhere"))
-        self.assertIn("started anew", self.facts()["refused"])
+        for key in ("folder", "runtime"):
+            self.reload(self.settings(**{key: "/elsewhere"}))
+            self.assertRegex(self.facts()["refused"], f"^{key}: .*started anew")
 
     def test_a_judge_that_hangs_that_speaks_nonsense_or_that_can_not_be_started(self) -> None:
         self.begin()
