@@ -1,8 +1,8 @@
 #!/bin/sh
-# Follows docs/FIRST_EVENING.md from its first line on, in a Debian of its own in which nothing is installed but what debootstrap puts there: its commands,
-# as they stand in the page, one after the other. A receiver in software stands in the place of gpiomon, which has no pin here, and writes as libgpiod 1 does. It
-# takes twenty minutes, most of it waiting for minutes, and 500 MB of disk, and isn't in the gate. Needs root, debootstrap and the network of Debian's packages;
-# DEBIAN names a folder with a bare Debian, which is copied. RADIO_NTPD names the program where it isn't the one of this folder.
+# Follows docs/FIRST_EVENING.md from its first line on, in a bare Debian of its own: its commands, as they stand in the page, one after the other.
+# A receiver in software stands in the place of gpiomon, which has no pin here, and writes as libgpiod 1 does. It takes twenty minutes, most of it
+# waiting for minutes, and 500 MB of disk, and isn't in the gate. Needs root, mmdebstrap and the network of Debian's packages; DEBIAN names a folder
+# with a bare Debian, which is copied. RADIO_NTPD names the program where it isn't the one of this folder.
 #
 #     checks/evening.sh
 set -u
@@ -36,7 +36,7 @@ wrong() {
 if [ -n "${DEBIAN:-}" ]; then
     cp -a "$DEBIAN" "$host"
 else
-    debootstrap --variant=minbase bookworm "$host" > "$work/made" 2>&1 || { tail -n 3 "$work/made" >&2; exit 1; }
+    mmdebstrap --mode=root --variant=minbase bookworm "$host" > "$work/made" 2>&1 || { tail -n 3 "$work/made" >&2; exit 1; }
 fi
 mount -t proc proc "$host/proc" || exit 1
 
@@ -107,12 +107,11 @@ nsenter --net="/proc/$network/ns/net" chroot "$host" sh -c "cd $home && exec $(s
 keeper=$!
 # Eight minutes after the first minute mark there is a time.
 turns=0
-until inside './radio_keeper status' > "$work/step.9" 2>&1; do
+until inside "timeout --signal=INT 5 $(step 9)" > "$work/step.9" 2>&1; grep -q 'OK: ' "$work/step.9"; do
     turns=$((turns + 1))
-    [ $turns -lt 120 ] || { wrong "no time after ten minutes: $(head -n 3 "$work/step.9"; tail -n 3 "$work/step.8")"; break; }
-    sleep 5
+    [ $turns -lt 120 ] || { wrong "no time after ten minutes: $(tail -n 9 "$work/step.9"; tail -n 3 "$work/step.8")"; break; }
 done
-has 9 '^OK: time from DCF, stratum 1'
+has 9 'OK: time from DCF, stratum 1'
 run 10
 has 10 'System clock wrong by'
 wrong_by=$(sed -n 's/.*System clock wrong by \(-\{0,1\}[0-9.]*\) seconds.*/\1/p' "$work/step.10")
