@@ -30,6 +30,8 @@ in bursts of one to ten. A burst ends when no fault was in force for a minute.
   sentence says that it is lost; of one that was killed a sentence says so within 15 s. Without a
   fault none is killed. One that was told to end is gone within ten seconds.
 - After a power cut a log has all but its last 70 s. Without one each log has whole lines alone.
+- 15 s after the last fault the file for pages names each radio without a pulse for its `stall`, by
+  its last pulse, within 3 s; and none that is received.
 - A command that gives nothing is started again and received after its `stall` and 75 s. At most 90
   processes are started within a minute. Descriptors stay below a bound; no process, file or
   descriptor is left at the end.

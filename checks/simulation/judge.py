@@ -6,6 +6,7 @@ from typing import TYPE_CHECKING
 from checks.simulation.air import Mark
 from checks.simulation.clients import GAP, Clients
 from checks.simulation.kept import Kept
+from checks.simulation.told import Told
 from checks.simulation.world import SEEN, World
 
 if TYPE_CHECKING:
@@ -63,6 +64,7 @@ class Judge:
         self.lasts = 0.0  # until when some fault is in force
         self.clients = Clients(self)
         self.kept = Kept(self)
+        self.told = Told(self)
 
     def found(self, rule: str, text: str) -> None:
         if sum(one.rule == rule for one in self.findings) < MOST:

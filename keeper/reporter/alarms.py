@@ -6,6 +6,7 @@ import logging
 
 from keeper import config
 from keeper.errors import ended
+from keeper.reporter.health import silence
 from keeper.reporter.state import SILENT, Alarm, RadioState, State
 from keeper.supervisor.host import Child, Host
 
@@ -13,12 +14,13 @@ KEPT = 20  # alarms that the state keeps, and that wait; of more the oldest is d
 GRACE = 2.0  # between SIGTERM and SIGKILL (s)
 TOO_LONG = 124, -9  # how `timeout` ends once it has sent the one or the other
 NEVER = 900.0  # a radio alone needs ten minutes at most until clients get the time (s)
+DEAD = 600.0  # a radio without a pulse for so long is unheard, whatever `alarms.unheard` is (s)
 HELD_OFF = 3600.0  # between two alarms of runs that died: a flood would send thousands (s)
 EVENTS = {
     "time-gained": "clients get the time",
     "time-lost": "no link has had the time for 15 s, or none 15 minutes after the start",
-    "radio-unheard": "a radio has had no verdict for `alarms.unheard`",
-    "radio-heard": "it has one again",
+    "radio-unheard": "a radio has had no verdict for `alarms.unheard`, or no pulse for ten minutes",
+    "radio-heard": "it has a verdict again",
     "run-died": "a run died or fell silent; at most once an hour",
     "file-refused": "a reload was refused",
 }
@@ -38,7 +40,7 @@ class Alarms:
         self.state_file = state_file
         self.has_time: bool | None = None
         self.time_at = 0.0
-        self.silent: set[str] = set()  # names of radios
+        self.silent: dict[str, float] = {}  # since when that was raised, by names of radios
         self.run = 0
         self.died_at = -HELD_OFF
         self.died = 0  # runs that died since that alarm
@@ -55,9 +57,9 @@ class Alarms:
             elif one.event == "run-died":
                 self.died_at = one.at
             elif one.event == "radio-unheard":
-                self.silent.add(one.text.partition(UNHEARD)[0])
+                self.silent[one.text.partition(UNHEARD)[0]] = one.at
             elif one.event == "radio-heard":
-                self.silent.discard(one.text.removesuffix(HEARD))
+                self.silent.pop(one.text.removesuffix(HEARD), None)
 
     def judge(self, state: State, now: float) -> None:
         """Raises what changed since the last call (`now` in Unix s)."""
@@ -104,20 +106,22 @@ class Alarms:
         name = f"radio {radio.number} ({radio.name or radio.plan})"
         begun = max(state.keeper_since, radio.since)
         silent = now - max(radio.minute_at, begun)
-        if silent >= self.settings.unheard:
+        is_dead = radio.silent_since and now - radio.silent_since >= DEAD
+        if silent >= self.settings.unheard or is_dead:
             if name not in self.silent:
-                self.silent.add(name)
-                why = f": {radio.fault}" if radio.fault else ""
-                said = f"{name}{UNHEARD} for {silent:.0f} s{why}"
+                self.silent[name] = now
+                why = silence(radio, now) or radio.fault
+                said = f"{name}{UNHEARD} for {silent:.0f} s{f': {why}' if why else ''}"
                 self.raise_alarm(state, "radio-unheard", said, now, radio.number)
-        elif name in self.silent and radio.minute_at > begun:
-            self.silent.discard(name)
+        elif name in self.silent and radio.minute_at > max(begun, self.silent[name]):
+            del self.silent[name]
             self.raise_alarm(state, "radio-heard", name + HEARD, now, radio.number)
 
     def move(self, step: float) -> None:
         """The host's clock was set forward by this number of seconds."""
         self.time_at += step
         self.died_at += step
+        self.silent = {name: at + step for name, at in self.silent.items()}
 
     def raise_alarm(self, state: State, event: str, text: str, now: float,
                     radio: int | None = None) -> None:

@@ -4,7 +4,7 @@ metrics say these, so that all say the same."""
 from collections.abc import Iterator
 from enum import IntEnum
 
-from keeper.durations import length, span
+from keeper.durations import clock, length, span
 from keeper.errors import plain
 from keeper.reporter.rules import PLANS
 from keeper.reporter.state import SILENT, LinkState, RadioState, State
@@ -100,6 +100,8 @@ def _warnings(state: State, now: float) -> Iterator[str]:
 
 def _radio(state: State, radio: RadioState, now: float) -> str:
     name = title(radio)
+    if radio.silent_since:
+        return f"{name}: {silence(radio, now)}; its source is {radio.source}"
     if radio.source != "running":
         return f"{name}: its source is {radio.source}"
     silent = now - max(radio.minute_at, state.keeper_since, radio.since)
@@ -107,6 +109,14 @@ def _radio(state: State, radio: RadioState, now: float) -> str:
         why = f": {radio.fault}" if radio.fault else ""
         return f"{name}: no verdict {_since(radio.minute_at, now)}{why}"
     return ""
+
+
+def silence(radio: RadioState, now: float) -> str:
+    """For how long a radio's line has been silent, and since when; nothing where it isn't."""
+    if not radio.silent_since:
+        return ""
+    yet = "" if radio.pulse_at else " yet,"
+    return f"no pulse{yet} for {span(now - radio.silent_since)}, since {clock(radio.silent_since)} UTC"
 
 
 def summary(state: State, now: float) -> str:

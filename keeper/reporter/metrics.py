@@ -47,6 +47,7 @@ RADIOS: Sequence[Family] = (
     ("radio_pulses_total", "pulses taken", "pulses"),
     ("radio_bad_lines_total", "lines left out", "bad_lines"),
     ("radio_last_pulse_timestamp_seconds", "the last pulse", "pulse_at"),
+    ("radio_silent_since_timestamp_seconds", "since when a silent one gave none", "silent_since"),
     ("radio_pulse_rate", "pulses a second in the last minute", "rate"),
     ("radio_pulse_width_seconds", "their median width", "width if width"),
     ("radio_last_verdict_timestamp_seconds", "the last verdict", "minute_at"),

@@ -46,8 +46,9 @@ def radios(state: State, now: float) -> Table:
         spread = length(one.spread) if one.spread else "-"
         if one.steady and one.spread_given:
             spread += f", steady {length(one.spread_given)}"
+        source = f"silent, {one.source}" if one.silent_since else one.source
         rows.append([
-            title(one), one.source if is_kept(state, now) else "ended",
+            title(one), source if is_kept(state, now) else "ended",
             ago(one.pulse_at, state.written), f"{one.verdicts_hour} of {one.minutes_hour}",
             minute if one.minute_at else "never", length(one.offset) if one.minute_at else "-",
             spread, f"{length(one.width)}, {one.rate:.1f}/s" if one.rate else "-",

@@ -93,6 +93,7 @@ class Reception:
         self.counted += step
         self.radio.since += step
         self.radio.minute_at += step if self.radio.minute_at else 0.0
+        self.radio.pulse_at += step if self.radio.pulse_at else 0.0
 
     def _quarter(self, at: float) -> Quarter:
         """The quarter of an hour of a moment."""

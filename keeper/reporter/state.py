@@ -100,6 +100,8 @@ class RadioState:
     bad_lines: int = has(0, "lines left out")
     last_bad: str = has("", "the last of them")
     pulse_at: float = has(0.0, "the last pulse")
+    silent_since: float = has(0.0, "since when none came, once that is `stall`, else 0")
+    stall: float = has(60.0, "the file's")
     rate: float = has(0.0, "pulses a second in the last minute")
     width: float = has(0.0, "their median width")
     fault: str = has("", "what is wrong with them")

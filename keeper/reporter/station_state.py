@@ -70,13 +70,16 @@ class Station:
             old = {(one.number, one.plan): one for one in state.radios}
             known = [old.get((one["number"], one["plan"]), RadioState()) for one in said]
             state.radios = [RadioState(since=facts["at"], plan=one["plan"], minute=was.minute,
-                                       minute_at=was.minute_at, reception=was.reception)
+                                       minute_at=was.minute_at, pulse_at=was.pulse_at,
+                                       reception=was.reception)
                             for one, was in zip(said, known)]
             counted = min(state.written, facts["at"])  # the clock may have been ahead then
             self.radios = [Radio(one, facts["program"], counted) for one in state.radios]
             self.sources = now
         for radio, one in zip(state.radios, said):
-            vars(radio).update(one)
+            last = one["pulse_at"] or radio.pulse_at  # of the keeper before where this has none
+            since = one["silent_since"]
+            vars(radio).update(one, pulse_at=last, silent_since=min(since, last or since))
 
     def _take_servers(self, facts: Facts) -> None:
         """The servers and the leap second file, which a start or a reload alone changes."""

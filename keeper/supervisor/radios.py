@@ -33,6 +33,10 @@ class Heard:
 class Feed:
     """`heard` gets this feed and its new pulses, `log` keeps them. `state` is a word of the pages:
     `starting`, `running`, `stalled` (it is silent) or `waiting` (it ended, and is begun again).
+    `pulse_at` is when the last pulse came, 0.0 for never. `silent_since` is since when none came,
+    once that is its `stall`; 0.0 while they come. Both in seconds of CLOCK_BOOTTIME, since a sleep
+    is silence too. Beginning the source anew changes neither. `changed`: it fell silent, or gives
+    pulses again.
 
     What steadies lives as long as the feed, and not as its source: the line of a receiver that is
     started again still holds, since the host's counter went on."""
@@ -47,7 +51,11 @@ class Feed:
         self.state = "starting"
         self.pause = Pause(*PAUSES)
         self.restarts = self.pulses = self.reported_bad = 0
-        self.pulse_at = self.looked = self.reported = 0.0  # monotonic s
+        self.pulse_at = self.silent_since = 0.0
+        self.changed = False
+        self.born = host.boottime()
+        self.alive = host.monotonic()  # its last pulse, or its beginning
+        self.begun = self.looked = self.reported = 0.0  # the source (monotonic s)
 
     def _heard(self, pulses: list[Pulse]) -> list[Heard]:
         """These pulses, steadied; they are at hand from now on."""
@@ -61,6 +69,8 @@ class Feed:
         self._heard(pulses)
         if pulses:
             self.lines.last = pulses[-1].start
+            self.alive = self.lines.last / 1e6
+            self.pulse_at = self.host.boottime() - self.host.monotonic() + self.alive
 
     def turn(self, readable: set[int]) -> None:
         """Does what is due. Whatever goes wrong in it ends this source alone, until it is begun
@@ -68,6 +78,7 @@ class Feed:
         now = self.host.monotonic()
         try:
             self._turn(readable, now)
+            self._note_silence(now)
         except Ended as end:
             self._wait(now, str(end))
         except OSError as error:
@@ -84,12 +95,12 @@ class Feed:
                 return
             self.lines.begin()
             self.source.begin()
-            self.state, self.pulse_at = "running", now
+            self.state, self.begun = "stalled" if self.silent_since else "running", now
         elif self.source.awaits in readable or self.source.awaits < 0 and now - self.looked >= LOOK:
             self.looked = now
             self._take(self.lines.take(self.source.read(), int(now * 1e6)), now)
             self._report(now)
-        if now - self.pulse_at > self.radio.stall:
+        if now - max(self.alive, self.begun) > self.radio.stall:
             self._stall(now)
 
     def _wait(self, now: float, why: str) -> None:
@@ -102,18 +113,29 @@ class Feed:
         self.restarts += 1
 
     def _stall(self, now: float) -> None:
-        """No pulse for long."""
-        said = f"no pulse for {self.radio.stall:.0f} s"
+        """No pulse for long since the source was begun."""
         if self.source.stalls():
-            self._wait(now, said)
-        elif self.state == "running":
+            self._wait(now, f"no pulse for {self.radio.stall:.0f} s")
+
+    def _note_silence(self, now: float) -> None:
+        """Says once that the radio is silent, however often its source begins meanwhile."""
+        rests = self.state == "waiting"  # it was said why
+        longest = now - self.alive if rests else now - max(self.alive, self.begun)
+        if not self.silent_since and longest > self.radio.stall:
+            self.silent_since, self.changed = self.pulse_at or self.born, True
+            if not rests:
+                log.warning("radio %d: no pulse for %.0f s", self.number, self.radio.stall)
+        if self.silent_since and self.state == "running":
             self.state = "stalled"
-            log.warning("radio %d: %s", self.number, said)
 
     def _take(self, pulses: list[Pulse], now: float) -> None:
         if not pulses:
             return
-        self.pulse_at, self.state = now, "running"
+        if self.silent_since:
+            silent = self.host.boottime() - self.silent_since
+            log.info("radio %d gives pulses again, after %.0f s", self.number, silent)
+            self.silent_since, self.changed = 0.0, True
+        self.alive, self.pulse_at, self.state = now, self.host.boottime(), "running"
         self.pause.reset()
         self.pulses += len(pulses)
         heard = self._heard(pulses)

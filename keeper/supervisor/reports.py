@@ -148,9 +148,10 @@ def facts_of(host: Host, settings: Settings, service: Service, feeds: Sequence[F
     0.0 for never; spans are seconds. `began` is of CLOCK_BOOTTIME."""
     unix = host.realtime()
     shift, run = unix - host.monotonic(), service.serving
+    booted = unix - host.boottime()
     facts: dict[str, Any] = {key: getattr(settings, key) for key in OF_SETTINGS}
     return facts | {
-        "at": unix, "since": unix - host.boottime() + began, "pid": os.getpid(),
+        "at": unix, "since": booted + began, "pid": os.getpid(),
         "alarms": dataclasses.asdict(settings.alarms),
         "run": {
             "number": run.number if run else 0,
@@ -163,7 +164,8 @@ def facts_of(host: Host, settings: Settings, service: Service, feeds: Sequence[F
             "delay": feed.radio.delay, "steady": feed.radio.steady, "origin": feed.radio.origin,
             "source": feed.state, "restarts": feed.restarts, "pulses": feed.pulses,
             "bad_lines": feed.lines.bad, "last_bad": feed.lines.last_bad,
-            "pulse_at": feed.pulse_at + shift if feed.pulses else 0.0} for feed in feeds]}
+            "stall": feed.radio.stall, "pulse_at": feed.pulse_at and feed.pulse_at + booted,
+            "silent_since": feed.silent_since and feed.silent_since + booted} for feed in feeds]}
 
 
 def _link(link: Link, service: Service, shift: float, unix: float) -> dict[str, Any]:

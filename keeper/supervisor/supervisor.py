@@ -274,6 +274,8 @@ class Supervisor:
             self.pinged = now
             self.host.notify("WATCHDOG=1")
         is_news, self.service.watch.changed = self.service.watch.changed, False
+        for feed in self.feeds:
+            is_news, feed.changed = is_news or feed.changed, False
         self.reports.turn(self.feeds, is_news)
 
     def _facts(self) -> dict[str, Any]:

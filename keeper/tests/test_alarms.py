@@ -82,6 +82,33 @@ class Changes(Quiet):
         self.assertEqual(self.state.alarms[-1].text, "radio 0 (roof) has had no verdict for 600 s: "
                                                      "its output is the other way round")
 
+    def test_a_dead_line_is_named_before_the_verdicts_are_missed(self):
+        self.alarms.has_time, self.alarms.settings = False, config.Alarms(unheard=3600.0)
+        radio = self.state.radios[0]
+        radio.pulse_at = radio.silent_since = 1150.0
+        self.assertEqual(self.at(1749, minute_at=1140.0), [])
+        self.assertEqual(self.at(1750), ["radio-unheard"])
+        said = self.state.alarms[-1].text
+        self.assertEqual(said, "radio 0 (roof) has had no verdict for 610 s: no pulse for 10 min, "
+                               "since 1970-01-01 00:19:10 UTC")
+        self.assertEqual(self.at(1800), ["radio-unheard"])
+        radio.silent_since = 0.0
+        self.assertEqual(self.at(1810), ["radio-unheard"], "pulses are no verdict")
+        self.assertEqual(self.at(1900, minute_at=1900.0), ["radio-unheard", "radio-heard"])
+
+    def test_a_dead_line_that_another_reporter_has_named(self):
+        self.alarms.settings = config.Alarms(unheard=3600.0)
+        self.state.radios[0].silent_since, self.state.radios[0].minute_at = 1150.0, 1140.0
+        raised = Alarm("radio-unheard", 1750.0, "radio 0 (roof) has had no verdict for 610 s: x")
+        self.alarms.recall([raised], 1000.0, 1)
+        self.alarms.has_time = False
+        self.assertEqual(self.at(1800), [])
+        self.state.radios[0].silent_since = 0.0
+        self.assertEqual(self.at(1810), [])
+        self.alarms.move(100.0)
+        self.assertEqual(self.at(1911, minute_at=1850.0), [], "of before, by the clock as it was")
+        self.assertEqual(self.at(1912, minute_at=1851.0), ["radio-heard"])
+
     def test_a_radio_unheard_and_heard(self):
         self.alarms.has_time = False
         self.assertEqual(self.at(1599), [])

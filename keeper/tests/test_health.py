@@ -37,6 +37,10 @@ CASES: tuple[tuple[dict, str, str], ...] = (
     ({"link.root_dispersion": 0.25}, "WARNING", "port 123: the root dispersion is 250 ms of 500"),
     ({"link.root_dispersion": 0.249}, "OK", "time from DCF, stratum 1, root dispersion 249.0 ms"),
     ({"radio.source": "waiting"}, "WARNING", "DCF77 roof: its source is waiting"),
+    ({"radio.silent_since": NOW - 300, "radio.source": "stalled"}, "WARNING", "DCF77 roof: no pulse "
+     "for 5 min, since 2026-01-01 12:00:00 UTC; its source is stalled"),
+    ({"radio.silent_since": NOW - 65, "radio.pulse_at": 0.0}, "WARNING",
+     "DCF77 roof: no pulse yet, for 65 s, since 2026-01-01 12:03:55 UTC; its source is running"),
     ({"radio.minute_at": NOW - 3600}, "OK", "time from DCF"),
     ({"radio.minute_at": NOW - 3601}, "WARNING", "DCF77 roof: no verdict for 1 h"),
     ({"radio.minute_at": 0.0}, "WARNING", "DCF77 roof: no verdict yet"),

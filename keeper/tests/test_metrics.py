@@ -64,6 +64,14 @@ class Metrics(unittest.TestCase):
         self.assertIn(f"radio_ntpd_radio_steadied_mark_spread_seconds{RADIO} 0.0004\n",
                       metrics.render(state, NOW))
 
+    def test_a_dead_line(self) -> None:
+        state = a_good_station()
+        state.radios[0].silent_since, state.radios[0].source = NOW - 300, "stalled"
+        said = metrics.render(state, NOW)
+        for due in (f"silent_since_timestamp_seconds{RADIO} {NOW - 300:.0f}",
+                    f"source_running{RADIO} 0"):
+            self.assertIn(f"radio_ntpd_radio_{due}\n", said)
+
     def test_what_never_came_has_no_moment(self) -> None:
         state = a_good_station()
         state.radios[0].minute_at = state.radios[0].pulse_at = state.links[0].answered_at = 0.0

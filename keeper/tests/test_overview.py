@@ -52,6 +52,9 @@ class Text(unittest.TestCase):
             "again\n",
         ):
             self.assertIn(due, said)
+        made.radios[0].silent_since = NOW - 300
+        self.assertRegex(overview.render(made, NOW), r"\nDCF77 roof +silent, running +0 s ago ")
+        made.radios[0].silent_since = 0.0
         made.radios[0].source, made.links[0].leap = "stalled", 3
         said = overview.render(made, NOW)
         self.assertTrue(said.startswith(

@@ -89,8 +89,66 @@ class Feeds(unittest.TestCase):
         feed = self.feed("exec sleep 60", stall=0.3)
         with self.assertLogs("keeper") as said:
             self.turn(feed, lambda: feed.restarts == 2)
+        self.assertEqual((feed.silent_since, feed.pulse_at), (feed.born, 0.0))
         self.assertIn("radio 0: no pulse for 0 s; it is started again in 1 s", said.output[0])
         self.assertIn("radio 0: no pulse for 0 s; it is started again in 2 s", said.output[1])
+
+    def silent(self, feed: Feed) -> float:
+        """Turns until it is said to be silent, and begins again. Since when it is, less its last
+        pulse (s)."""
+        self.turn(feed, lambda: feed.silent_since and feed.restarts >= 2)
+        self.assertTrue(feed.changed)
+        self.assertEqual(feed.state, "waiting")
+        return feed.silent_since - feed.pulse_at
+
+    def test_a_silent_radio_is_so_since_its_last_pulse_however_often_its_command_begins(self) -> None:
+        now = time.monotonic_ns() // 1000
+        feed = self.feed(
+            f"[ -e {self.folder}/once ] || {{ echo {now} 7; : > {self.folder}/once; }}; "
+            f"[ ! -e {self.folder}/on ] || echo {now + 1} 7; exec sleep 60", stall=1.0)
+        self.turn(feed, lambda: feed.pulses == 1)
+        first = feed.pulse_at
+        self.assertLess(abs(first - time.clock_gettime(time.CLOCK_BOOTTIME)), 5)
+        self.assertEqual((feed.silent_since, feed.changed), (0.0, False))
+        with self.assertLogs("keeper") as said:
+            self.assertEqual(self.silent(feed), 0.0)
+            self.assertEqual(feed.pulse_at, first, "beginning is no pulse")
+            feed.changed = False
+            (self.folder / "on").touch()
+            self.turn(feed, lambda: feed.pulses == 2)
+        self.assertEqual((feed.silent_since, feed.changed, feed.state), (0.0, True, "running"))
+        self.assertRegex(said.output[-1], "radio 0 gives pulses again, after [0-9]+ s")
+
+    def test_a_command_that_ends_again_and_again_is_silent(self) -> None:
+        feed = self.feed("exit 1", stall=2.0)
+        with self.assertLogs("keeper") as said:
+            self.turn(feed, lambda: feed.silent_since)
+        self.assertEqual((feed.silent_since, feed.state), (feed.born, "waiting"))
+        self.assertFalse([one for one in said.output if "no pulse" in one], "each end was said")
+
+    def test_a_fifo_that_falls_silent_is_said_so_once(self) -> None:
+        os.mkfifo(self.folder / "pulses")
+        radio = Radio("fifo", str(self.folder / "pulses"), "dcf", 0.2, "dcf", 0.0)
+        log = PulseLog(self.host, str(self.folder), 0, "dcf", "b0070001")
+        feed = Feed(self.host, 0, radio, log, lambda *_: None)
+        self.addCleanup(feed.source.close)
+        with self.assertLogs("keeper") as said:
+            self.turn(feed, lambda: feed.silent_since)
+            end = time.monotonic() + 0.5
+            self.turn(feed, lambda: time.monotonic() > end)
+        self.assertEqual([one.rpartition("radios:")[2] for one in said.output],
+                         ["radio 0: no pulse for 0 s"])
+        self.assertEqual((feed.state, feed.restarts), ("stalled", 0))
+
+    def test_what_was_logged_says_when_the_last_pulse_came(self) -> None:
+        feed = self.feed("exec sleep 60", stall=0.3)
+        now = time.monotonic_ns() // 1000
+        feed.recall([Pulse(now - 70_000_000, 7)])
+        ago = time.clock_gettime(time.CLOCK_BOOTTIME) - feed.pulse_at
+        self.assertLess(abs(ago - 70), 5)
+        with self.assertLogs("keeper"):
+            self.turn(feed, lambda: feed.silent_since)
+        self.assertEqual(feed.silent_since, feed.pulse_at)
 
     def test_what_ignores_the_end_holds_nothing_up(self) -> None:
         feed = self.feed("trap '' TERM; while :; do sleep 61; done", stall=0.2)

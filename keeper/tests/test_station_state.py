@@ -16,7 +16,7 @@ def facts(folder: str, **more: object) -> dict:
     radio = {
         "number": 0, "plan": "dcf", "name": "roof", "delay": 0.0, "steady": False, "origin": "o",
         "source": "running", "restarts": 0, "pulses": 5, "bad_lines": 0, "last_bad": "",
-        "pulse_at": now}
+        "pulse_at": now, "silent_since": 0.0, "stall": 60.0}
     link = {
         "port": 123, "asked_at": now, "answered_at": now, "requests": 7, "requests_per_second": 1.0,
         "leap": 0, "stratum": 1, "reference_id": "DCF", "root_delay": 0.0,
@@ -73,6 +73,19 @@ class Stations(Folder):
         other["radios"][0]["plan"] = "msf"
         station.take(other)
         self.assertEqual(station.state.radios[0].reception, [])
+
+    def test_a_radio_that_was_silent_before_the_keeper_began_is_so_since_its_last_pulse(self) -> None:
+        """The keeper of these facts has had no pulse; the one before had its last 500 s ago."""
+        before = a_good_station(time.time())
+        before.radios[0].pulse_at = last = time.time() - 500
+        for said, at, due in ((0.0, 0.0, 0.0), (60.0, 0.0, last), (60.0, 50.0, 50.0)):
+            station, given = Station(before), facts(self.folder)
+            moments = {"silent_since": said and last + 440, "pulse_at": at and last + 430}
+            given["radios"][0].update(moments)
+            station.take(given)
+            shown = station.state.radios[0]
+            self.assertEqual(shown.silent_since, due and (last + 430 if at else due))
+            self.assertEqual(shown.pulse_at, last + 430 if at else last)
 
     def test_servers_at_one_address_are_two(self) -> None:
         station = Station(None)
