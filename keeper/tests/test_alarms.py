@@ -186,6 +186,13 @@ class Changes(Quiet):
             self.alarms.recall(self.state.alarms, 1000.0, 1)
             self.assertEqual(self.at(again, minute_at=minute_at), due)
 
+    def test_a_source_that_is_begun_anew_is_no_verdict(self):
+        self.alarms.has_time = False
+        self.assertEqual(self.at(1600), ["radio-unheard"])
+        self.state.radios[0].since = 1650.0
+        self.assertEqual(self.at(1660), ["radio-unheard"])
+        self.assertEqual(self.at(1670, minute_at=1670.0), ["radio-unheard", "radio-heard"])
+
     def test_alarms_of_a_keeper_before_hold_nothing_off(self):
         self.state.alarms = [Alarm("run-died", 990.0, "a"), Alarm("time-gained", 995.0, "b")]
         self.alarms.recall(self.state.alarms, 1000.0, 0)

@@ -14,6 +14,7 @@ from unittest import mock
 from keeper import calibrate, lock
 from keeper.arguments import parse
 from keeper.errors import Fault
+from keeper.lateness import Minute
 from keeper.supervisor.clocks import counter, tag_of
 from keeper.supervisor.logs import PulseLog
 from keeper.supervisor.host import Host
@@ -112,6 +113,17 @@ class Whole(unittest.TestCase):
         told, said = self.calibrate(60.0)
         self.assertEqual(told, 0, said)
         self.assertIn("set in the station file: delay = 34", said)
+
+    def test_minutes_of_before_a_server_was_asked_are_not_compared_with_it(self):
+        now = time.time()
+        minutes = [Minute(now + one, 0.03, 0.03, 0.1) for one in (-60.0, 0.0, 60.0)]
+        server = mock.Mock()
+        server.offset_at.side_effect = lambda at: None if at > now + 59 else 0.5
+        with mock.patch.multiple(calibrate, heard=lambda *_: [], decoded=lambda *_: [],
+                                 minutes_of=lambda *_: minutes), mock.patch("time.time", lambda: now):
+            self.assertEqual(calibrate.listen(mock.MagicMock(), 0, server, 1.0),
+                             [Minute(now, 0.53, 0.53, 0.1)])
+            self.assertEqual(calibrate.listen(mock.MagicMock(), 0, None, 1.0), minutes)
 
     def test_a_server_that_has_no_address(self):
         self.settings("sleep 60")

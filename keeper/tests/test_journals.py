@@ -5,6 +5,7 @@ import os
 import pathlib
 import tempfile
 import unittest
+from unittest import mock
 
 from keeper.supervisor import journals
 from keeper.tests.fake_host import FakeHost
@@ -41,6 +42,13 @@ class Journals(unittest.TestCase):
         self.assertEqual((journal.status, journal.heard), ("status 7 link 1", [15, 1]))
         for text in (b"", b"status 0", b"j2 1 0 0 5 verd\n", TEXT[:-3]):
             self.assertEqual(journals.status_of(text), "")
+
+    def test_the_counts_stand_before_the_journal(self) -> None:
+        """Where the host dies between the two no journal is without them."""
+        journal, put = self.add(4), []
+        with mock.patch.object(self.host, "rename", lambda old, new: put.append(new)):
+            journal.keep(str(self.kept))
+        self.assertEqual([os.path.splitext(one)[1] for one in put], [".own", ".journal"])
 
     def test_a_count_that_is_none_is_passed_over(self) -> None:
         """As of a keeper that was killed: the next one begins all the same."""

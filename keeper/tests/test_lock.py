@@ -59,6 +59,13 @@ class Locks(unittest.TestCase):
             with mock.patch("builtins.open", listed):
                 self.assertEqual(lock._is_listed(path), due, words)
 
+    def test_two_who_look_at_it_at_once_see_no_keeper(self):
+        os.close(lock.take(self.host, self.folder))
+        looks = os.open(os.path.join(self.folder, lock.NAME), os.O_RDONLY)
+        self.addCleanup(os.close, looks)
+        fcntl.flock(looks, fcntl.LOCK_SH)
+        self.assertFalse(lock.is_taken(self.folder))
+
     def test_one_who_looks_at_it_keeps_none_from_starting(self):
         os.close(lock.take(self.host, self.folder))
         looks = os.open(os.path.join(self.folder, lock.NAME), os.O_RDONLY)

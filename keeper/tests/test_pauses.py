@@ -3,7 +3,7 @@
 import math
 import unittest
 
-from keeper.supervisor.pauses import Pauses
+from keeper.supervisor.pauses import Bounds, Pauses
 
 NONE = -1.0  # of a host without a real-time clock
 BEGAN = 1_796_000_000.37  # Unix seconds when the host was booted
@@ -26,6 +26,23 @@ class Host:
         if self.hardware == NONE:
             return None
         return math.floor(self.boot * (1 + self.fast) + self.hardware)
+
+
+class Readings(unittest.TestCase):
+    def test_bounds_widen_by_what_the_clocks_may_go_apart(self) -> None:
+        """By a millisecond a second: a hundred seconds later by a tenth of a second either way."""
+        later = Bounds(5.0, 6.0, 0.0).narrowed(Bounds(0.0, 9.0, 100.0))
+        self.assertEqual((later.least, later.most, later.at), (4.9, 6.1, 100.0))
+        later = Bounds(5.0, 6.0, 0.0).narrowed(Bounds(5.5, 9.0, 100.0))
+        self.assertEqual((later.least, later.most), (5.5, 6.1))
+
+    def test_a_clock_that_agreed_before_and_agrees_less_now_was_set_by_none(self) -> None:
+        """The system's clock is 10.0 s ahead; the real-time clock jumped from there."""
+        for known, new, due in ((9.95, 10.24, 0.29), (9.71, 9.99, 0.0), (10.0, 10.15, 0.0)):
+            pauses = Pauses(Host())  # type: ignore[arg-type]
+            pauses.ahead.append(10.0)
+            before, now = (Bounds(one - 0.1, one + 0.1, 50.0) for one in (known, new))
+            self.assertAlmostEqual(pauses._judged(before, now), due)
 
 
 class Watched(unittest.TestCase):

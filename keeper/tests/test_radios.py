@@ -47,6 +47,13 @@ class Feeds(unittest.TestCase):
     def lines(self) -> bytes:
         return b"".join(one.given.line() for one in self.heard)
 
+    def test_a_pulse_makes_the_pause_short_again(self) -> None:
+        feed = self.feed(f"echo {time.monotonic_ns() // 1000} 7; exec sleep 60")
+        for _ in range(5):
+            feed.pause.begin(0.0)
+        self.turn(feed, lambda: feed.pulses == 1)
+        self.assertEqual(feed.pause.begin(100.0), 1.0)
+
     def test_a_source_that_dies_in_a_line_is_started_again(self) -> None:
         now = time.monotonic_ns() // 1000
         feed = self.feed(

@@ -6,6 +6,7 @@ import struct
 import threading
 import time
 import unittest
+from unittest import mock
 
 from keeper.reference import Exchange, Server
 
@@ -56,6 +57,30 @@ class Servers(unittest.TestCase):
             server.socket.close()
             fake.socket.sendto(b"", ("127.0.0.1", fake.port))
             fake.close()
+
+    def test_what_a_server_takes_to_answer_is_no_delay(self):
+        """By RFC 5905, section 8: T1 = 0, T2 = 3.2, T3 = 3.7, T4 = 1.1 by the two clocks."""
+        began, stamps = 1_700_000_000.0, []
+
+        class Answering:
+            def send(self, data):
+                stamps.append(data[40:48])
+
+            def settimeout(self, seconds):
+                pass
+
+            def recv(self, most):
+                times = [int((began + EPOCH + one) * 2**32) for one in (3.2, 3.7)]
+                return struct.pack(">BBBbII4sQ8sQQ", 0x24, 1, 6, -20, 0, 0, b"DCF\0", 0, stamps[0],
+                                   *times)
+
+        server = Server.__new__(Server)
+        server.socket = Answering()
+        with mock.patch("time.time", side_effect=[began, began + 1.1]):
+            found = server._ask()
+        self.assertAlmostEqual(found.delay, 0.6, places=5)
+        self.assertAlmostEqual(found.offset, 2.9, places=5)
+        self.assertEqual(found.at, began + 1.1)
 
     def test_one_without_a_time(self):
         """RFC 5905: leap indicator 3 says that it isn't synchronised."""

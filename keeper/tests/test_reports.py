@@ -7,6 +7,8 @@ import unittest
 from unittest import mock
 
 from keeper.ntp import EPOCH, Answer
+from keeper.supervisor.pulses import Pulse
+from keeper.supervisor.radios import Heard
 from keeper.supervisor.reports import FACTS, Reports, _link
 from keeper.supervisor.service import Service
 from keeper.supervisor.watchdog import Link
@@ -40,6 +42,21 @@ class Before(unittest.TestCase):
         self.path.unlink()
         os.mkdir(self.path)
         self.assertEqual(self.reports.paused_before(), self.host.realtime())
+
+
+class Told(unittest.TestCase):
+    def test_of_noise_the_last_pulses_are_told_to_a_reporter_that_begins(self) -> None:
+        host = FakeHost()
+        self.addCleanup(host.close_all)
+        told = Reports(host, "/run", dict)
+        self.addCleanup(told.close)
+        feed = mock.Mock(number=0)
+        pulses = [Pulse(one, 1) for one in range(4005)]
+        feed.last_minutes.return_value = [Heard(one, one) for one in pulses]
+        with mock.patch.object(told, "_tell") as tell:
+            told._look([feed], host.monotonic())
+        last = tell.call_args.args[0]["pulses"]
+        self.assertEqual((len(last), last[0], last[-1]), (4000, [5, 1, 5], [4004, 1, 4004]))
 
 
 class Links(unittest.TestCase):

@@ -30,6 +30,20 @@ class Links(Case):
                 self.host.close(one)
 
 
+class Polls(Case):
+    def test_servers_are_polled_for_as_long_as_a_paced_run_lasts(self) -> None:
+        """Without pacing each has as many polls as the station says."""
+        text = {"bound": 500, "link": [], "server": [{"address": "192.0.2.1", "polls": 8}]}
+        for pace, due in ((16, 100_000), (0, 8)):
+            settings = self.settings(text=text, pace=pace)
+            for folder in (settings.folder, settings.runtime):
+                self.host.make_folder(folder)
+            run = Run(self.host, settings, [], [], pace)
+            (server,) = self.host.programs()[-1].station["server"]
+            self.assertEqual(server["polls"], due)
+            run.release()
+
+
 class Counts(Case):
     def test_clients_datagrams_are_counted_over_all_runs(self) -> None:
         """Those of the keeper are left out; the rate is that of the last run."""

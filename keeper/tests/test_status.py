@@ -122,6 +122,12 @@ class Files(unittest.TestCase):
             0, "RADIO_NTPD OK: time from DCF, stratum 1, root dispersion 5.4 ms | "
             "root_dispersion_123=0.005400s;;0.5 verdicts_0=58;;;0;60\n"))
 
+    def test_a_bar_begins_nagios_figures_and_stands_nowhere_else(self):
+        out = io.StringIO()
+        with contextlib.redirect_stdout(out):
+            self.assertEqual(status.nagios("/no|such", None), 3)
+        self.assertRegex(out.getvalue(), r"\ARADIO_NTPD UNKNOWN: [^\n|]*/no/such[^\n|]*\n\Z")
+
     def test_a_process(self):
         child = subprocess.Popen(["true"])
         child.wait()

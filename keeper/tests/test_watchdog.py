@@ -73,6 +73,14 @@ class Answers(unittest.TestCase):
             self.assertEqual(self.link.silent, silent)
         self.assertTrue(self.watch.is_deaf())
 
+    def test_in_a_crowd_it_takes_ten(self) -> None:
+        """A crowd: a hundred datagrams found no room within the last second."""
+        for dropped, due in ((99, 3), (100, 10)):
+            self.watch.dropped = [(100.0, 0), (100.5, dropped)]
+            for silent in range(1, 12):
+                self.link.silent = silent
+                self.assertEqual(self.watch.is_deaf(), silent >= due, (dropped, silent))
+
     def test_patience_doubles_up_to_eight_times_and_is_gone_after_a_calm_minute(self) -> None:
         found = []
         for now in (200.0, 210.0, 220.0, 230.0, 240.0):
