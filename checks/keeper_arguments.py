@@ -3,7 +3,7 @@ of its statuses, and says in one sentence why it refuses; nothing is begun by it
 
 import contextlib
 import functools
-import importlib.util
+import importlib
 import io
 import random
 import socket
@@ -17,7 +17,6 @@ from checks.spoils import spoil
 from keeper import __main__ as keeper_main
 from keeper import arguments
 
-TOP = Path(__file__).resolve().parent.parent
 STATUSES = (0, 1, 2, 3, 64, 71, 78)
 WORDS = (
     *arguments.COMMANDS, *keeper_main.OF_THE_SERVICE, "--config", "--folder", "--json", "--nagios",
@@ -37,11 +36,7 @@ class Wrong(Exception):
 
 @functools.cache
 def feeder(name: str) -> ModuleType:
-    spec = importlib.util.spec_from_file_location(name, TOP / "feeders" / f"{name}.py")
-    assert spec and spec.loader
-    found = importlib.util.module_from_spec(spec)
-    spec.loader.exec_module(found)
-    return found
+    return importlib.import_module(f"feeders.{name}")
 
 
 def need(is_so: bool, what: str) -> None:

@@ -189,7 +189,7 @@ class Ends(unittest.TestCase):
             now = round((NOON + time.monotonic() + 5 + UNIX) * WHOLE)
             ours.sendall(reply(request(1), now, now))  # nobody asked for this one
             ours.sendall(reply(asked[2:], now, now))
-            self.assertTrue(client.waits(lambda one: 4 < one.error <= 5 and one.is_wrong, 10))
+            self.assertTrue(client.waits(lambda one: 1 < one.error <= 5 and one.is_wrong, 10))
             ours.close()
         self.assertEqual(len(client.answers), 2)
 

@@ -109,6 +109,9 @@ class Whole(unittest.TestCase):
     def test_one_that_is_interrupted_says_what_it_has(self):
         self.write("marks", "\n".join(self.marks()) + "\n")
         self.settings(f"cat {self.folder}/marks; exec sleep 60")
+        # A shell begins what runs beside it with SIGINT ignored.
+        before = signal.signal(signal.SIGINT, signal.default_int_handler)
+        self.addCleanup(signal.signal, signal.SIGINT, before)
         threading.Timer(4.0, os.kill, (os.getpid(), signal.SIGINT)).start()
         told, said = self.calibrate(60.0)
         self.assertEqual(told, 0, said)

@@ -68,8 +68,9 @@ class Answers(unittest.TestCase):
         now = 100.0
         for silent in range(1, 4):
             self.assertFalse(self.watch.is_deaf())
-            now += 0.3
-            self.watch.turn(set(), now)
+            for _ in range(15):  # of looks that aren't late
+                now += 0.02
+                self.watch.turn(set(), now)
             self.assertEqual(self.link.silent, silent)
         self.assertTrue(self.watch.is_deaf())
 
