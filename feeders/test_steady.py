@@ -126,6 +126,14 @@ class Line(unittest.TestCase):
         raw, moved = errors(steady, range(621, 680), 8_000)
         self.assertLess(statistics.pstdev(moved) * 5, statistics.pstdev(raw))
 
+    def test_a_start_on_a_border_stays_on_its_side(self):
+        """Code plans read 0.9 s and more as a neighbouring mark, and up to 1.1 s with it."""
+        steady = Steady()
+        steady.second = [5_000_000]
+        for apart, due in ((900_000, (0, 80_000)), (900_001, (-1, 80_000)), (1_100_000, (-80_000, 0)), (1_100_001, (0, 80_000)), (1_900_000, (0, 80_000)), (2_100_000, (-80_000, 0))):
+            with self.subTest(apart=apart):
+                self.assertEqual(steady.room(5_000_000 + apart), due)
+
     def test_spread(self):
         """Half the marks of a jitter of 8 ms either way are farther off than 4 ms."""
         steady = Steady()

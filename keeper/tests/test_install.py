@@ -138,6 +138,14 @@ class Install(unittest.TestCase):
             self.assertEqual("start the service again, if it runs" in said, is_new)
             self.assertEqual("systemctl try-restart radio_ntpd" in done, is_new)
 
+    def test_an_installation_that_changes_no_file_starts_nothing_again(self):
+        step = ("write /x", lambda: None)
+        for files, is_new in (([step], True), ([], False)):
+            with mock.patch.multiple(install, file_steps=lambda *_, files=files: iter(files), named_program=str), mock.patch.object(install, "host_steps", return_value=[]) as host:
+                with contextlib.redirect_stdout(io.StringIO()):
+                    install.main(parse(["install"]))
+            self.assertEqual(host.call_args.args[1], is_new)
+
     def test_systemds_own_tools_make_the_user_and_what_it_may_read(self):
         """They are given the files that lie in their place by then."""
         self.install("--do", "--prefix", "/usr")

@@ -13,7 +13,7 @@ from unittest import mock
 from keeper import status
 from keeper.arguments import parse
 from keeper.reporter.__main__ import METRICS, PAGE, SHOWN, STATE, Reporter, last_state
-from keeper.reporter.state import Alarm, State, load, save
+from keeper.reporter.state import Alarm, RunState, State, load, save
 from keeper.reporter.station_state import Station
 from keeper.supervisor.host import Host
 from keeper.tests.made_station import a_good_station
@@ -97,6 +97,16 @@ class Reporters(Folder):
         station = self.tell(reporter, {"facts": said})
         reporter._judge(station)
         self.assertEqual([one.text for one in station.state.alarms], ["x"])
+
+    def test_a_run_of_another_keeper_is_not_known(self) -> None:
+        """Runs are counted from each keeper's begin: its second one isn't that of the one before."""
+        said = facts(self.folder)
+        for before, due in ((said["pid"], 7), (said["pid"] + 1, 0)):
+            state = State(written=time.time(), keeper_pid=before, run=RunState(number=7))
+            save(Host(), state, os.path.join(self.runtime, STATE))
+            reporter = self.reporter()
+            self.tell(reporter, {"facts": said})
+            self.assertEqual(reporter.alarms.run, due)
 
     def test_a_run_that_died_before_the_reporter_was_there_is_raised_once(self) -> None:
         """A reporter takes its time to begin; another one follows it."""
