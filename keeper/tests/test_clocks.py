@@ -10,14 +10,14 @@ class Interrupted(Host):
     """It has slept for 100 s, and interrupts us in all but one pair of readings."""
 
     def __init__(self, calm: int) -> None:
-        self.calm, self.pair = calm, 0
+        self.calm, self.looks = calm, 0
 
     def boottime(self) -> float:
         return 600.0
 
     def monotonic(self) -> float:
-        self.pair += 1
-        return 500.0 + (0.0 if self.pair - 1 == self.calm else 0.5)
+        self.looks += 1
+        return 500.0 + (0.0 if self.looks - 1 == self.calm else 0.5)
 
 
 class Clocks(unittest.TestCase):

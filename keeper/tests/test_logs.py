@@ -130,7 +130,8 @@ class Logs(Folder):
         self.assertLess(max(gaps), 60)
 
     def test_over_midnight_both_days_are_put_on_the_disk(self) -> None:
-        log, synced = self.log(), []
+        log = self.log()
+        synced: list[int | str] = []
         self.add(log, 1)
         self.host.now += 60.0
         with mock.patch.object(self.host, "sync", synced.append):

@@ -126,11 +126,14 @@ class Links(Made):
         """A late look comes 50 ms after the one before: by turns of 40 ms each silence counts."""
         other = self.host.bind("127.0.0.1", 0)
         self.addCleanup(os.close, other)
-        for looks, due in (([0, 0.04, 5, 5.2, 5.24, 5.28], [0, 0, 0, 0, 0, 1]),
-                           ([0, 5, 10, 15, 20], [0, 0, 1, 1, 2]),
-                           ([place * 0.04 for place in range(8)], [0] * 7 + [1])):
+        cases: tuple[tuple[list[float], list[int]], ...] = (
+            ([0, 0.04, 5, 5.2, 5.24, 5.28], [0, 0, 0, 0, 0, 1]),
+            ([0, 5, 10, 15, 20], [0, 0, 1, 1, 2]),
+            ([place * 0.04 for place in range(8)], [0] * 7 + [1]))
+        for looks, due in cases:
             link = Link(self.host.port_of(other))
-            watch, began, silent = Watch(self.host, [link], ["127.0.0.1"]), self.host.now, []
+            watch, began = Watch(self.host, [link], ["127.0.0.1"]), self.host.now
+            silent: list[int] = []
             for at in looks:
                 watch.turn(set(), began + at)
                 silent.append(link.silent)

@@ -7,6 +7,7 @@ import pathlib
 import signal
 import tempfile
 import unittest
+from typing import Any
 from unittest import mock
 
 from keeper import reload
@@ -49,7 +50,7 @@ class Asked(unittest.TestCase):
     """`reload` by what the keeper's file says after each look."""
 
     def reload(self, *found: tuple[int, int, str]) -> int:
-        parts = {"told": mock.Mock(side_effect=found), "keeper_runs": lambda settings: True,
+        parts: dict[str, Any] = {"told": mock.Mock(side_effect=found), "keeper_runs": lambda settings: True,
                  "chosen": str, "LOOK": 0.0}
         settings = mock.Mock(runtime="/run/radio_ntpd")
         with mock.patch.multiple(reload, **parts), mock.patch("os.kill") as kill:

@@ -70,10 +70,11 @@ class Causes(Case):
     def test_a_paced_run_ends_before_its_polls_do(self) -> None:
         """A server has 100000 polls in a run, of which seven tenths are used."""
         server = [("192.0.2.1", 123)]
-        for served, pace, servers, due in (
-                (69_999.0, 1, server, ""), (70_001.0, 1, server, "cycle"),
-                (70_001.0, 4, server, ""), (280_001.0, 4, server, "cycle"),
-                (70_001.0, 1, [], ""), (86400.0 * 7, 1, [], "cycle")):
+        cases: tuple[tuple[float, int, list[tuple[str, int]], str], ...] = (
+            (69_999.0, 1, server, ""), (70_001.0, 1, server, "cycle"),
+            (70_001.0, 4, server, ""), (280_001.0, 4, server, "cycle"),
+            (70_001.0, 1, [], ""), (86400.0 * 7, 1, [], "cycle"))
+        for served, pace, servers, due in cases:
             self.assertEqual(self.why(served, pace, servers), due, (served, pace))
 
     def test_a_run_that_serves_cuts_no_pause_short(self) -> None:
