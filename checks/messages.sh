@@ -325,7 +325,7 @@ while [ "$limit" -lt 1000 ]; do
     limit=$((limit + 4))
 done
 messages=$((messages + 1))
-[ "$told:$(cat "$work/said")" = '9:radio_ntpd: no memory was found to say more' ] ||
+[ "$told:$(cat "$work/said")" = '9:radio_ntpd: no memory was found, and nothing was done' ] ||
     wrong "want of memory ends with $told and says '$(cat "$work/said")'"
 
 # A log that gives no minute: its hint. A log has COUNT lines, one a second; its first width and each sixtieth is FIRST, and the
