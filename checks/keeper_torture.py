@@ -2,11 +2,12 @@
 answers of servers, arguments. None may raise what it doesn't say, hang, or refuse without a word.
 
     python3 -m checks.torture --keeper SECONDS [SEED]
-    python3 -m checks.keeper_torture --one KIND NUMBER [SEED]    one of them again, with its traceback
+    python3 -m checks.keeper_torture KIND NUMBER [SEED]    one of them again, with its traceback
 
 A number of a kind has the same input wherever it is made, but for the clock's moments in it.
 """
 
+import argparse
 import contextlib
 import logging
 import random
@@ -67,7 +68,16 @@ def run(seconds: float, seed: int = SEED, kinds: Mapping[str, Kind] = KINDS) -> 
     return bad
 
 
-if __name__ == "__main__":
+def main() -> None:
+    """Repeats one input, to see where it was raised."""
+    parser = argparse.ArgumentParser(description="Repeats one input.")
+    parser.add_argument("kind", choices=KINDS)
+    parser.add_argument("number", type=int)
+    parser.add_argument("seed", type=int, nargs="?", default=SEED)
+    asked = parser.parse_args()
     with tempfile.TemporaryDirectory() as held:
-        _, name, number, *seed = sys.argv[1:]
-        one(KINDS[name], name, int(number), int(seed[0]) if seed else SEED, Path(held))
+        one(KINDS[asked.kind], asked.kind, asked.number, asked.seed, Path(held))
+
+
+if __name__ == "__main__":
+    main()

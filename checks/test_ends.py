@@ -62,6 +62,9 @@ CASES = [
     ("checks/handed_over.py", "12300", 2),
     ("checks/hostile.py", "x", 2),
     ("checks/torture.py", "", 2),
+    ("checks/mutation.py", "", 2),
+    ("checks/mutation.py", "keeper/nosuch.py", 2),
+    ("checks/keeper_torture.py", "x", 2),
     ("checks/model/__main__.py", "x", 2),
     ("checks/model/__main__.py", "1 2 3", 2),
     ("checks/model/__main__.py", "--one decode", 2),
@@ -133,7 +136,7 @@ class Ends(unittest.TestCase):
             str(path.relative_to(TOP))
             for folder in FOLDERS
             for path in (TOP / folder).rglob("*.py")
-            if path.stat().st_mode & 0o100 or "__main__" in path.read_text()
+            if path.stat().st_mode & 0o100 or path.name == "__main__.py" or '"__main__":' in path.read_text()
         }
         tests = {program for program in programs if "/test_" in program}
         self.assertEqual(programs - tests - {program for program, _, _ in CASES}, {"build/build_program.py", *SIMULATION})
