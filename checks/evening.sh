@@ -36,7 +36,7 @@ wrong() {
 if [ -n "${DEBIAN:-}" ]; then
     cp -a "$DEBIAN" "$host"
 else
-    mmdebstrap --mode=root --variant=minbase bookworm "$host" > "$work/made" 2>&1 || { tail -n 3 "$work/made" >&2; exit 1; }
+    mmdebstrap --mode=root --variant=minbase --include=systemd bookworm "$host" > "$work/made" 2>&1 || { tail -n 3 "$work/made" >&2; exit 1; }
 fi
 mount -t proc proc "$host/proc" || exit 1
 

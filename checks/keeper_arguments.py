@@ -54,8 +54,8 @@ def command(*words: str) -> None:
     need(status in STATUSES, f"{words[0]} ends with {status}")
     need("Traceback" not in said, said)
     if status >= 64:
-        last = errors.getvalue().splitlines()[-1:]
-        need(bool(last) and last[0].startswith(f"radio_keeper {words[0]}: "), f"it says {last}")
+        text = errors.getvalue()  # a name in it may have line breaks
+        need(f"radio_keeper {words[0]}: " in text, f"it says {text}")
     if "--nagios" in words and status < 64:
         need(status <= 3 and out.getvalue().startswith("RADIO_NTPD "), f"to Nagios: {said}")
         need(out.getvalue().count("\n") == 1, f"more than a line for Nagios: {said}")
@@ -105,7 +105,8 @@ def feeders(draw: random.Random, folder: Path) -> None:
         except SystemExit as ended:
             end = ended.code
         status = 1 if isinstance(end, str) else end or 0
-        need(status in (0, 1, 2, 127), f"{name} {given} ends with {status}")
+        decoded = range(12) if name == "chrony_sock" else ()  # it ends as the `decode` that it reads
+        need(status in (0, 1, 2, 127, *decoded), f"{name} {given} ends with {status}")
         need("Traceback" not in errors.getvalue(), errors.getvalue())
         said = errors.getvalue() + (end if isinstance(end, str) else "")
         need(status == 0 or said.strip() != "", f"{name} {given} says nothing")

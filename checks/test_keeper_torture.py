@@ -56,7 +56,7 @@ class Torture(unittest.TestCase):
 
     def test_a_command_that_refuses_without_a_word_is_seen(self):
         with mock.patch.object(keeper_arguments.keeper_main, "main", return_value=71):
-            with self.assertRaisesRegex(keeper_arguments.Wrong, "^it says \\[\\]$"):
+            with self.assertRaisesRegex(keeper_arguments.Wrong, "^it says $"):
                 keeper_arguments.command("status")
 
     def test_odd_values_stand_in_place_of_good_ones(self):

@@ -8,7 +8,7 @@ import os
 import sys
 
 from keeper.arguments import parse
-from keeper.errors import DONE, HOST, INTERRUPTED, USAGE, Fault, sentence
+from keeper.errors import DONE, HOST, INTERRUPTED, USAGE, Fault, plain, sentence
 
 OF_THE_SERVICE = ("start", "stop", "restart", "enable", "disable")
 MODULES = {"watch": "status"}  # `watch` is a way of `status`
@@ -36,11 +36,11 @@ def main(words: list[str]) -> int:
         sys.stdout.flush()
         return status
     except Fault as fault:
-        print(f"{name}: {fault}", file=sys.stderr)
+        print(plain(f"{name}: {fault}"), file=sys.stderr)
         return fault.status
     except OSError as error:
         if not isinstance(error, BrokenPipeError):  # else whoever read what we print has ended
-            print(f"{name}: {sentence(error)}", file=sys.stderr)
+            print(plain(f"{name}: {sentence(error)}"), file=sys.stderr)
         drop_output()
         return HOST
     except KeyboardInterrupt:

@@ -80,6 +80,10 @@ class CommandLine(unittest.TestCase):
                         "--config names one, and docs/FIRST_EVENING.md writes one\n")
                 self.assertEqual(self.run_keeper(command), (78, "", said))
 
+    def test_a_name_does_not_control_the_terminal(self):
+        self.assertEqual(self.run_keeper("check", "--config", "\x1b[2Jx"), (
+            78, "", "radio_keeper check: ?[2Jx: No such file or directory\n"))
+
     def test_files_that_are_refused(self):
         path = os.path.join(self.folder, "keeper.toml")
         for text, due in (("station = 3", "station"), ("speed = 1\nstation = 'x'", "speed"),
