@@ -25,6 +25,8 @@ in bursts of one to ten. A burst ends when no fault was in force for a minute.
 - No answer is wrong by 20 ms, but in the tenth of a second after a sleep, in 2.5 s after one of 0.3
   s or more that the real-time clock alone shows, and in 130 s after one that no clock shows (a
   whole minute comes, and the program sees it).
+- No sentence says of a run that it doesn't answer after faults that do nothing to it, as where the
+  supervisor had no processor.
 - A run reads whole pulses of its radio's source and of its own counter, each as it was received.
 - A run that printed its journal has it on the disk, whole, unless a disk was in trouble or a
   sentence says that it is lost; of one that was killed a sentence says so within 15 s. Without a

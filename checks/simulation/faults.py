@@ -107,9 +107,22 @@ def _kill(machine: Machine, more: tuple[str, ...]) -> None:
     if host is None:
         return
     if more:
-        host.fuse, host.blow = int(more[0]), host.die
+        host.fuse, host.blow, host.stands = int(more[0]), host.die, False
     else:
         host.die()
+
+
+def _stand(machine: Machine, more: tuple[str, ...]) -> None:
+    """The supervisor is stopped within a turn, after some calls, for so long."""
+    host = machine.kills
+    if host is None:
+        return
+
+    def now() -> None:
+        host.stands = False
+        machine.run_to(machine.world.now + float(more[1]))
+
+    host.fuse, host.blow, host.stands = int(more[0]), now, True
 
 
 def _cut(machine: Machine, more: tuple[str, ...]) -> None:
@@ -122,7 +135,7 @@ def _cut(machine: Machine, more: tuple[str, ...]) -> None:
             host.die()
 
     if more and host:
-        host.fuse, host.blow = int(more[0]), now
+        host.fuse, host.blow, host.stands = int(more[0]), now, False
     else:
         now()
 
@@ -236,11 +249,11 @@ def _fade(machine: Machine, more: tuple[str, ...]) -> None:
     machine.transmitter.radios[int(more[0])].silent = machine.world.now + 10 * float(more[1])
 
 
-LASTING = ("full", "freeze", "slow-disk", "late", "bad-program", "no-program", "full-run",
+LASTING = ("stand", "full", "freeze", "slow-disk", "late", "bad-program", "no-program", "full-run",
            "refuse", "flood")
 SPECIAL: dict[str, Callable[[Machine, tuple[str, ...]], None]] = {
     "kill": _kill, "cut": _cut, "restart": _term, "term-late": _term_twice, "sleep": _sleep,
-    "jump": _jump, "set": _set, "refuse": _refuse, "full": _full, "full-run": _full_run,
+    "stand": _stand, "jump": _jump, "set": _set, "refuse": _refuse, "full": _full, "full-run": _full_run,
     "freeze": _freeze, "slow-disk": _slow, "late": _late, "flood": _flood, "fade": _fade,
     "bad-program": lambda machine, more: _program(machine, "bad", more[0]),
     "no-program": lambda machine, more: _program(machine, "missing", more[0]),

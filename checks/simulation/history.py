@@ -89,7 +89,7 @@ def made(seed: int, span: float) -> History:
 
 def _lasts(events: list[Event]) -> float:
     """For how long at most something of these is in force (s)."""
-    return max((float(one.more[-1]) for one in events if one.kind in (*SPANS, "refuse", "flood")),
+    return max((float(one.more[-1]) for one in events if one.kind in (*SPANS, "refuse", "flood", "stand")),
                default=0.0)
 
 
@@ -109,6 +109,8 @@ def _event(chance: random.Random, at: float, kind: Kind) -> Event:
         name = chance.choice(SPANS)
         if name == "late":
             span = str(chance.choice((0.2, 1.0, 3.0)))
+        if name == "late" and chance.random() < 0.5:
+            return Event(at, "stand", (str(chance.randrange(1, 400)), span))
         return Event(at, name, (number, span) if name == "fade" else (span,))
     if which < 0.86:
         call = chance.choice(sorted(CAUSES))

@@ -26,17 +26,19 @@ class HostFiles(Host):
         self.most = 3
         self.gone = self.in_job = self.begun = False
         self.fuse = 0
+        self.stands = False  # the fuse lets time pass, which no job does
         self.blow: Callable[[], None] = lambda: None
 
     def enter(self, call: str) -> None:
         """Each call begins here. Raises OSError where it is refused, Killed where we are gone."""
         if self.gone:
             raise Killed
-        if self.fuse:
+        if self.fuse and not (self.stands and self.in_job):
             self.fuse -= 1
             if not self.fuse:
                 self.blow()
-                raise Killed
+                if self.gone:
+                    raise Killed
         if self.machine.refusals.calls:
             self.machine.refusals.ask(call, self.world.now)
 

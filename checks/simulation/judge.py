@@ -19,6 +19,7 @@ LASTS = 500.0  # for so long after that the time can be had without new ones (s)
 STARTS = 90  # processes that are started within a minute at most
 SHOWN, LOOKED = 0.3, 2.0  # a sleep shown by the real-time clock, to who looked at it so long (s)
 ENDED = 4.0  # a supervisor that is started sooner after a sleep is told nothing of it (s)
+HARMLESS = ("late", "stand", "kill-run", "die-run", "hup", "fade", "set", "kill-reporter")
 MOST = 2  # findings of a rule that are kept
 
 
@@ -196,6 +197,9 @@ class Judge:
 
     def said(self, level: int, text: str) -> None:
         self.kept.said(level, text)
+        kinds = {one.kind.split(" ")[1] for one in self.burst()}
+        if "doesn't answer" in text and kinds <= set(HARMLESS):
+            self.found("a run that answers is called silent", text)
 
     def before_cut(self) -> None:
         self.clients.settle()

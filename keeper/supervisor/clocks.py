@@ -7,6 +7,7 @@ from keeper.supervisor.host import Host
 AWAKE = 0.01  # sleeps that are shorter together are none (s)
 LEAST = 2.0  # what the clock is set by less than this moves nothing (s); a slew is none
 READINGS = 5
+LATE = 0.5  # of the time since the look before no more counts (s)
 
 
 def slept(host: Host) -> float:
@@ -50,6 +51,20 @@ class Clocks:
         """By how much the clock was set forward since the last call (s), 0.0 where it wasn't."""
         before, self.ahead = self.ahead, self.host.realtime() - self.host.boottime()
         return self.ahead - before if abs(self.ahead - before) >= LEAST else 0.0
+
+
+class Looks:
+    """Seconds by our own looks: one that came late counts for LATE at most, since we were stopped
+    or starved, which is no evidence against a run."""
+
+    seconds = 0.0
+
+    def __init__(self, now: float) -> None:
+        self.last = now
+
+    def look(self, now: float) -> None:
+        self.seconds += min(now - self.last, LATE)
+        self.last = now
 
 
 class Pause:

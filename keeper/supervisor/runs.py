@@ -23,7 +23,6 @@ PENDING = 1 << 20  # bytes that wait for a pipe that is full; more says that nob
 SENTENCES = 4096  # of what it says on its standard error, in bytes
 HUNG = 2.0  # one that reads no pulse for so long hangs (s)
 BEGINS = 10.0  # the same of one that has read none yet: a busy host takes long to start it (s)
-LATE = 0.1  # each look counts for so long at most, since the loop may be late itself (s)
 LOCAL = "127.0.0.1"
 
 
@@ -39,6 +38,8 @@ class Run:
     asks_since = float("inf")  # since when its servers are asked (monotonic s)
     cause = why = note = out = ""
     has_read = had_time = False
+    read_at: float | None = None  # since when it has been behind, by our looks (s)
+    ends_at = 0.0  # when it was told to end, by our looks (s)
     is_crowded = False  # whether more datagrams came than are answered as it began
     errors = -1
     probe = 0
@@ -46,8 +47,7 @@ class Run:
     def __init__(self, host: Host, settings: Settings, feeds: Sequence[Feed],
                  links: Sequence[int], number: int) -> None:
         self.host, self.settings, self.number = host, settings, number
-        self.started = self.looked = host.monotonic()
-        self.unfed = 0.0  # for how long it has read no pulse (s)
+        self.started = host.monotonic()
         self.own = [0] * len(links)
         self.outlets: dict[Feed, Outlet] = {}
         self.signals: dict[str, int] = {}  # `ask`, `go` and `end`: what hasn't been told yet
@@ -149,14 +149,13 @@ class Run:
         except OSError:
             return False
 
-    def hangs(self, now: float) -> bool:
-        """Whether it hasn't read what it was given for long. Call it often."""
+    def hangs(self, seen: float) -> bool:
+        """Whether it hasn't read what it was given for long, by the seconds of our looks."""
         if self.is_fed():
-            self.unfed, self.has_read = 0.0, True
-        else:
-            self.unfed += min(now - self.looked, LATE)
-        self.looked = now
-        return self.unfed > (HUNG if self.has_read else BEGINS)
+            self.read_at, self.has_read = seen, True
+        elif self.read_at is None:
+            self.read_at = seen
+        return seen - self.read_at > (HUNG if self.has_read else BEGINS)
 
     def tell(self, name: str) -> None:
         """`ask`: its servers may be asked; `go`: it serves."""

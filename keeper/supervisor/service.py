@@ -6,7 +6,7 @@ from collections.abc import Sequence
 
 from keeper.config import Settings
 from keeper.ntp import own_addresses
-from keeper.supervisor.clocks import Pause
+from keeper.supervisor.clocks import Looks, Pause
 from keeper.supervisor.host import Host
 from keeper.supervisor.disk import Note
 from keeper.supervisor.journals import Archive, Journal
@@ -49,6 +49,8 @@ class Service:
         self.ending: list[Run] = []
         self.watch = Watch(host, [], [])
         self.looked_at: Watch | None = None
+        self.looks = Looks(host.monotonic())
+        self.looked_from = 0.0  # since when the next run is looked at, by our looks (s)
         self.number = 0
         self.cause = "start"
         self.wants_reload = False
@@ -88,7 +90,8 @@ class Service:
 
     def turn(self, readable: set[int]) -> None:
         now = self.host.monotonic()
-        self._step_ending(now)
+        self.looks.look(now)
+        self._step_ending()
         if self.serving and self.serving.status() is not None:
             self._lose("died", now)
         if self.is_open:
@@ -111,7 +114,7 @@ class Service:
             said = f"run {self.next.number}, which stood by,"
             if self.next.status() is not None:
                 self._fail(f"{said} {self.next.how()}", now)
-            elif self.next.hangs(now):
+            elif self.next.hangs(self.looks.seconds):
                 self._fail(f"{said} takes no pulses", now)
             elif now - self.next.started > SHORT:
                 self.starts.reset()
@@ -185,6 +188,7 @@ class Service:
         run.begin(cause)
         port = run.probe or next(iter(self.settings.links), 0)
         self.watch.close()
+        self.looked_from = self.looks.seconds
         self.looked_at = Watch(self.host, [Link(port)] if port else [], self.addresses, EVERY)
 
     def _look(self, run: Run, watch: Watch, readable: set[int], now: float) -> None:
@@ -202,7 +206,7 @@ class Service:
             log.info("run %d goes on: the next one would not have the time yet; it is tried again "
                      "in %.0f s", before.number, self.refusals.begin(now))
             self._drop_next()
-        elif not link.answered_at and run.served_for() > look:
+        elif not link.answered_at and self.looks.seconds - self.looked_from > look:
             self._fail(f"run {run.number} doesn't answer", now)
 
     def _accept(self, run: Run, watch: Watch, now: float) -> None:
@@ -249,6 +253,7 @@ class Service:
             run.own[place] += link.asked
             link.asked = 0
         run.end(why)
+        run.ends_at = self.looks.seconds
         self.ending.append(run)
 
     def _lose(self, why: str, now: float) -> None:
@@ -260,15 +265,15 @@ class Service:
         if why == "died" and run.served_for() < SHORT:
             self.starts.begin(now)
 
-    def _step_ending(self, now: float) -> None:
+    def _step_ending(self) -> None:
         for run in list(self.ending):
             if run.status() is not None:
                 self.ending.remove(run)
                 self._note_end(run)
-            elif run.ended is not None and now - run.ended > END:
+            elif self.looks.seconds - run.ends_at > END:
                 log.error("run %d is ended at once: it didn't end by itself", run.number)
                 run.end_at_once()
-                run.ended = now
+                run.ends_at = self.looks.seconds
 
     def _note_end(self, run: Run) -> None:
         """A run has ended: its journal goes to the disk, or is lost."""

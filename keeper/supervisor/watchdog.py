@@ -13,6 +13,7 @@ LEAST = 0.05  # how soon a question that the host refused is asked again (s)
 HURRIED = 8.0  # where links fall silent again and again patience grows to so many times at most
 SETTLED = 0.3  # a run that is told to end may answer so long (s)
 CALM = 60.0  # after so long without a deaf link patience is what it was (s)
+LATE = 0.05  # a look that comes so long after the one before is late: we were stopped or starved (s)
 CROWD = 100  # datagrams that find no room within a second make a crowd
 
 
@@ -21,11 +22,12 @@ class Link:
     """A port that is asked. `queue` is its socket, -1 where there is none to look at. `asked_at`
     and `answered_at` are monotonic seconds; `last` is its last answer that was no kiss code: it
     came at `came_unix`, and was `offset` seconds ahead of the host's clock. `waits_since`: since
-    when datagrams wait in its queue."""
+    when datagrams wait in its queue. `judged_from`: since when its answer is waited for."""
 
     port: int
     queue: int = -1
     asked_at: float = 0.0
+    judged_from: float = 0.0
     answered_at: float = 0.0
     last: Answer | None = None
     came_unix: float = 0.0
@@ -56,6 +58,7 @@ class Watch:
     patience: float = 1.0
     deaf_at: float = -CALM
     changed: bool = False  # an answer differs from the one before
+    looked: float = 0.0
     # In the last second, or since the last turn where that is longer ago.
     dropped: list[tuple[float, int]] = field(default_factory=list)
 
@@ -64,18 +67,22 @@ class Watch:
 
     def due(self) -> float:
         """When something is to be done at the latest (monotonic s)."""
-        return min((link.asked_at + self._wait(link) if link.client >= 0 else link.due
+        return min((link.judged_from + self._wait(link) if link.client >= 0 else link.due
                     for link in self.links), default=float("inf"))
 
     def turn(self, readable: set[int], now: float) -> None:
-        """Takes answers and asks what is due. Call it often."""
+        """Takes answers and asks what is due. Call it often. A look that came late is no evidence
+        against anybody: each question is waited for anew then, once."""
         if now - self.deaf_at > CALM:
             self.patience = 1.0
+        is_late, self.looked = now - self.looked > LATE, now
         for link in self.links:
             self._look(link, now)
             if link.client in readable:
                 self._receive(link, now)
-            if link.client >= 0 and now - link.asked_at > self._wait(link):
+            if is_late and link.judged_from == link.asked_at:
+                link.judged_from = now
+            if link.client >= 0 and now - link.judged_from > self._wait(link):
                 self._is_silent(link, now)  # it is asked again at once
             if link.client < 0 and now >= link.due:
                 self._ask(link, now)
@@ -120,7 +127,7 @@ class Watch:
             link.due = now + LEAST
             self._forget(link)
             return
-        link.asked_at = now
+        link.asked_at = link.judged_from = now
         link.asked += 1
 
     def _receive(self, link: Link, now: float) -> None:

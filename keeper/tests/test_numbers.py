@@ -122,6 +122,21 @@ class Links(Made):
         self.assertTrue(75 <= hundredth <= 80, hundredth)
         self.assertEqual(watch.links[0].asked, 4)
 
+    def test_a_question_that_was_looked_at_late_is_waited_for_anew_once(self) -> None:
+        """A late look comes 50 ms after the one before: by turns of 40 ms each silence counts."""
+        other = self.host.bind("127.0.0.1", 0)
+        self.addCleanup(os.close, other)
+        for looks, due in (([0, 0.04, 5, 5.2, 5.24, 5.28], [0, 0, 0, 0, 0, 1]),
+                           ([0, 5, 10, 15, 20], [0, 0, 1, 1, 2]),
+                           ([place * 0.04 for place in range(8)], [0] * 7 + [1])):
+            link = Link(self.host.port_of(other))
+            watch, began, silent = Watch(self.host, [link], ["127.0.0.1"]), self.host.now, []
+            for at in looks:
+                watch.turn(set(), began + at)
+                silent.append(link.silent)
+            watch.close()
+            self.assertEqual(silent, due)
+
 
 if __name__ == "__main__":
     unittest.main()

@@ -229,6 +229,32 @@ class Faults(Case):
         self.turn(5.0)
         self.assertEqual(serving.status, -signal.SIGKILL)
 
+    def late(self, run: Process, seconds: float) -> None:
+        """Neither we nor the run have a processor for so long; we are the first to have one."""
+        run.frozen, self.host.now = True, self.host.now + seconds
+        self.supervisor.turn()
+        run.frozen = False
+
+    def test_a_late_look_is_no_evidence_against_a_run_that_was_told_to_serve(self) -> None:
+        self.begin()
+        self.turn(5.0)
+        serving, waiting = self.host.programs()
+        serving.end(-9)
+        self.turn(lambda: self.service.looked_at is not None)
+        self.late(waiting, 10.0)
+        self.turn(1.0)
+        self.assertEqual(self.service.serving.number, 2)
+        self.assertFalse([one for one in self.host.said if "answer" in one])
+
+    def test_a_late_look_is_no_evidence_against_a_run_that_was_told_to_end(self) -> None:
+        self.begin()
+        self.turn(5.0)
+        serving = self.host.programs()[0]
+        self.service.stop()
+        self.late(serving, 10.0)
+        self.turn(1.0)
+        self.assertEqual(serving.status, 0)
+
     def test_a_hung_run_with_clients_is_found_sooner(self) -> None:
         self.begin()
         self.turn(5.0)
