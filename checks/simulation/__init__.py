@@ -28,6 +28,10 @@ in bursts of one to ten. A burst ends when no fault was in force for a minute.
 - No sentence says of a run that it doesn't answer after faults that do nothing to it, as where the
   supervisor had no processor.
 - A run reads whole pulses of its radio's source and of its own counter, each as it was received.
+- A run has its pace and polls for a year, asks no server 15 s before it serves, and has three
+  answers by then where they come. It has the leap second file wherever that can be read.
+- Marks are up to 15 ms early or late where they are steadied: 200 in a row are within 6 ms of the
+  second, none is off by more than 21 ms, and logs have them as they came.
 - A run that printed its journal has it on the disk, whole, unless a disk was in trouble or a
   sentence says that it is lost; of one that was killed a sentence says so within 15 s. Without a
   fault none is killed. One that was told to end is gone within ten seconds.

@@ -12,9 +12,10 @@ FIRST, MANY = 100_000, 1_800_000  # widths from the first on tell pulses apart (
 KEPT = 4000  # pulses of a radio that are known again
 
 
-@dataclass(frozen=True)
+@dataclass
 class Mark:
-    """A pulse that was received. `offset` is the true time less the monotonic clock (s)."""
+    """A pulse that was received. `offset` is the true time less the monotonic clock (s). `off`: how
+    late it was received (us). `row`: as many were delivered in a row up to it."""
 
     radio: int
     source: str
@@ -23,6 +24,8 @@ class Mark:
     at: float
     offset: float
     start: int
+    off: int = 0
+    row: int = 0
 
 
 class Air:
@@ -33,13 +36,15 @@ class Air:
         self.marks: dict[int, Mark] = {}
         self.serial = 0
 
-    def line(self, radio: int, source: str, second: int, ago: float) -> tuple[bytes, Mark]:
-        """The line of a pulse that began this many seconds ago."""
+    def line(self, radio: int, source: str, second: int, ago: float,
+             late: float = 0.0) -> tuple[bytes, Mark]:
+        """The line of a pulse that began this many seconds ago, and was received late (s)."""
         width = FIRST + self.serial % MANY
         self.serial += 1
-        start = round((self.world.monotonic() - ago) * 1e6)
+        off = round(late * 1e6)
+        start = round((self.world.monotonic() - ago) * 1e6) + off
         mark = Mark(radio, source, self.world.epoch, second, self.world.now,
-                    self.world.offset(), start)
+                    self.world.offset(), start, off)
         self.marks[width] = mark
         if len(self.marks) > 4 * KEPT:
             for one in list(self.marks)[:KEPT]:

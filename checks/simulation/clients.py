@@ -105,7 +105,7 @@ class Clients:
                 if judge.heard_at < judge.jumped_at or self.world.now - judge.fed_at > GAP:
                     return None  # nothing comes that could say so
                 ends = judge.heard_at + JUMPED
-            return max(ends, self.world.late + AWAKE)
+            return max(ends, self.world.late + AWAKE, judge.stands + AWAKE)
         base = self._base()
         if port.state == "time" or base is None or self.judge.machine.kills is None:
             return None

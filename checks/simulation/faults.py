@@ -4,7 +4,7 @@ from collections.abc import Callable, Sequence
 
 from checks.simulation.helpers import Reporter
 from checks.simulation.history import Event
-from checks.simulation.machine import STATE, Machine
+from checks.simulation.machine import LEAP, STATE, Machine
 from checks.simulation.processes import Process
 from checks.simulation.program import Run
 from checks.simulation.radios import Receiver
@@ -120,7 +120,8 @@ def _stand(machine: Machine, more: tuple[str, ...]) -> None:
 
     def now() -> None:
         host.stands = False
-        machine.run_to(machine.world.now + float(more[1]))
+        machine.judge.stands = machine.world.now + float(more[1])
+        machine.run_to(machine.judge.stands)
 
     host.fuse, host.blow, host.stands = int(more[0]), now, True
 
@@ -229,6 +230,21 @@ def _remove(machine: Machine, is_folder: bool) -> None:
             del machine.disk.folders[f"{STATE}/logs"]
 
 
+def _leap_gone(machine: Machine, more: tuple[str, ...]) -> None:
+    """The leap second file goes, and comes again."""
+    folder, name = machine.disk.split(LEAP)
+    inode = folder.names.get(name)
+    if inode:
+        folder.put(machine.world.now, {name: None})
+        machine.world.at(float(more[0]), lambda: folder.put(machine.world.now, {name: inode}))
+
+
+def _server(machine: Machine, how: str, lasts: str) -> None:
+    """A server's answers come late, or are lost."""
+    machine.server = how
+    machine.world.at(float(lasts), setattr, machine, "server", "")
+
+
 def _file(machine: Machine, more: tuple[str, ...], what: str) -> None:
     """A radio's file is replaced or made shorter; a FIFO's writer goes and comes."""
     writer = machine.transmitter.writers.get(int(more[0]))
@@ -250,13 +266,17 @@ def _fade(machine: Machine, more: tuple[str, ...]) -> None:
 
 
 LASTING = ("stand", "full", "freeze", "slow-disk", "late", "bad-program", "no-program", "full-run",
-           "refuse", "flood")
+           "refuse", "flood", "leap-gone", "server-late", "server-lost")
 SPECIAL: dict[str, Callable[[Machine, tuple[str, ...]], None]] = {
     "kill": _kill, "cut": _cut, "restart": _term, "term-late": _term_twice, "sleep": _sleep,
-    "stand": _stand, "jump": _jump, "set": _set, "refuse": _refuse, "full": _full, "full-run": _full_run,
-    "freeze": _freeze, "slow-disk": _slow, "late": _late, "flood": _flood, "fade": _fade,
+    "stand": _stand, "jump": _jump, "set": _set, "refuse": _refuse, "full": _full,
+    "full-run": _full_run, "freeze": _freeze, "slow-disk": _slow, "late": _late, "flood": _flood,
+    "fade": _fade,
     "bad-program": lambda machine, more: _program(machine, "bad", more[0]),
     "no-program": lambda machine, more: _program(machine, "missing", more[0]),
+    "leap-gone": _leap_gone,
+    "server-late": lambda machine, more: _server(machine, "late", more[0]),
+    "server-lost": lambda machine, more: _server(machine, "lost", more[0]),
     "remove-logs": lambda machine, more: _remove(machine, True),
     "remove-log": lambda machine, more: _remove(machine, False),
     "leave": lambda machine, more: _file(machine, more, "leave"),

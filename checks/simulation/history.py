@@ -20,6 +20,8 @@ SIMPLE = (
     "orphan-receiver", "kill-reporter", "hang-reporter", "hup", "hup-bad", "hup-junk", "hup-hang",
     "hup-source", "hup-swap", "hup-cycle", "kill", "restart", "term-late", "remove-logs",
     "remove-log", "leave", "replace", "shorten")
+EXTRAS: dict[str, tuple[str, ...]] = {  # what a station may have besides, and its faults
+    "servers": ("server-late", "server-lost"), "steady": (), "leap": ("leap-gone",)}
 SPANS = ("fade", "full", "freeze", "slow-disk", "late", "bad-program", "no-program", "full-run")
 
 
@@ -48,7 +50,8 @@ class History:
         kind = self.kind
         head = (f"seed {self.seed} ends {self.ends:.0f} {','.join(kind.radios)} "
                 f"{','.join(str(one) for one in kind.ports)} {kind.cycle} {kind.stall} "
-                f"{'socket' if kind.handed_over else 'bind'} {kind.rate:g}")
+                f"{'socket' if kind.handed_over else 'bind'} "
+                f"{' '.join((f'{kind.rate:g}', *kind.extras))}")
         return "\n".join((head, *(str(one) for one in self.events))) + "\n"
 
 
@@ -56,9 +59,9 @@ def parse(text: str) -> History:
     """The history that `History.text` wrote. Raises ValueError."""
     head, *lines = [line.split() for line in text.splitlines() if line.strip()]
     try:
-        _, seed, _, ends, radios, ports, cycle, stall, sockets, rate = head
+        _, seed, _, ends, radios, ports, cycle, stall, sockets, rate, *extras = head
         kind = Kind(tuple(radios.split(",")), tuple(int(one) for one in ports.split(",")),
-                    int(cycle), int(stall), sockets == "socket", float(rate))
+                    int(cycle), int(stall), sockets == "socket", float(rate), tuple(extras))
         events = [Event(float(at), kind, tuple(more)) for at, kind, *more in lines]
         return History(int(seed), kind, float(ends), events)
     except ValueError as error:
@@ -75,6 +78,8 @@ def made(seed: int, span: float) -> History:
                 chance.choice((10, 60, 60)), chance.random() < 0.7,
                 chance.choice((0.02, 5.0, 5.0, 200.0)))
     history = History(seed, kind, span)
+    other = random.Random(f"extras {seed}")
+    kind.extras = tuple(one for one in EXTRAS if other.random() < 0.3)
     at = WARM + chance.uniform(0.0, 60.0)
     while at < span - 60.0:
         burst = 1 if chance.random() < 0.6 else chance.randint(2, 10)
@@ -84,13 +89,19 @@ def made(seed: int, span: float) -> History:
             at += chance.choice((0.0, 0.03, 0.3, 2.0, 9.0)) * chance.random()
         at += chance.uniform(*CALMS) if chance.random() < 0.3 else CALMS[0] + chance.random() * 9
         at += _lasts(history.events[-burst:])
+    for one, its in EXTRAS.items():
+        if one in kind.extras and its:
+            when = other.uniform(WARM, max(WARM, span - 90.0))
+            more = (str(other.choice((5, 20, 60))),)
+            history.events.append(Event(when, other.choice(its), more))
+    history.events.sort(key=lambda event: event.at)
     return history
 
 
 def _lasts(events: list[Event]) -> float:
     """For how long at most something of these is in force (s)."""
-    return max((float(one.more[-1]) for one in events if one.kind in (*SPANS, "refuse", "flood", "stand")),
-               default=0.0)
+    lasting = (*SPANS, "refuse", "flood", "stand")
+    return max((float(one.more[-1]) for one in events if one.kind in lasting), default=0.0)
 
 
 def _event(chance: random.Random, at: float, kind: Kind) -> Event:

@@ -20,6 +20,7 @@ STARTS = 90  # processes that are started within a minute at most
 SHOWN, LOOKED = 0.3, 2.0  # a sleep shown by the real-time clock, to who looked at it so long (s)
 ENDED = 4.0  # a supervisor that is started sooner after a sleep is told nothing of it (s)
 HARMLESS = ("late", "stand", "kill-run", "die-run", "hup", "fade", "set", "kill-reporter")
+MARKS, STEADY, SPOILT = 200, 6000, 21_000  # so many marks in a row are steady within (us); others
 MOST = 2  # findings of a rule that are kept
 
 
@@ -63,6 +64,7 @@ class Judge:
         self.spawns: list[float] = []
         self.is_over = False  # the end was asked for
         self.lasts = 0.0  # until when some fault is in force
+        self.stands = 0.0  # until when the supervisor was stopped last
         self.clients = Clients(self)
         self.kept = Kept(self)
         self.told = Told(self)
@@ -156,6 +158,7 @@ class Judge:
             and abs(before.offset - mark.offset) < 1e-4
         self.credit[mark.radio] = self.credit.get(mark.radio, 0) + 1 if follows else 1
         self.last[mark.radio] = mark
+        mark.row = self.credit[mark.radio]
         self.kept.delivered(mark)
         if self.credit[mark.radio] >= WHOLE:
             self.good_at[mark.radio] = self.world.now
@@ -183,8 +186,12 @@ class Judge:
         if mark.radio != feed.number or mark.source != self.tags.get(feed.tag):
             self.found("a pulse of another source reaches a run",
                        f"{run}, radio {feed.number} ({self.tags.get(feed.tag)}): {mark.source}")
-        if start != mark.start:
+        late = start - mark.start + mark.off
+        if start != mark.start and "steady" not in self.machine.kind.extras:
             self.found("a pulse was moved", f"{start} in place of {mark.start}")
+        elif abs(late) > (STEADY if mark.row >= MARKS and mark.at - self.started_at > MARKS
+                          else SPOILT):
+            self.found("a pulse is off what steadies it", f"{late} us, the {mark.row}th in a row")
 
     def ended(self, run: "Run") -> None:
         self.kept.ended(run)

@@ -28,7 +28,8 @@ class Kept:
         self.killed: dict[str, float] = {}  # runs whose end without a journal must be said
         self.sentences: list[tuple[float, int, str]] = []
         self.marks: dict[int, list[Mark]] = {}
-        self.runs = self.cuts = 0
+        self.runs: int = 0
+        self.cuts: int = 0
         self.calm: set[str] = set()  # runs that ended without a fault near: nothing excuses them
 
     def ended(self, run: "Run") -> None:
@@ -114,11 +115,21 @@ class Kept:
     def logs(self) -> None:
         """Each log has whole lines alone, but for what a power cut left."""
         for path, inode in self.judge.machine.disk.inodes():
+            if "/logs/" in path and path.endswith(".log"):
+                self._unmoved(path, bytes(inode.data).split(b"\n"))
             if "/logs/" in path and path.endswith(".log") and not self.cuts:
                 *lines, rest = bytes(inode.data).split(b"\n")
                 bad = next((one for one in lines if not LINE.fullmatch(one)), rest)
                 if bad:
                     self.judge.found("a log has a bad line", f"{bad[:40]!r} in {path}")
+
+    def _unmoved(self, path: str, lines: list[bytes]) -> None:
+        """A log has pulses as they were received, whatever is handed on."""
+        for line in lines:
+            start, _, width = line.partition(b" ")
+            mark = self.judge.machine.air.known(int(width)) if width.isdigit() else None
+            if mark and LINE.fullmatch(line) and int(start) != mark.start:
+                self.judge.found("a log has a pulse that was moved", f"{line!r} in {path}")
 
     def _excused(self, at: float) -> bool:
         return any(when >= at and level >= 30 and any(one in text for one in DISK)

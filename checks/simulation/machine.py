@@ -10,6 +10,7 @@ from checks.simulation.air import Air
 from checks.simulation.disk import Disk
 from checks.simulation.judge import Judge
 from checks.simulation.opened import Open
+from checks.simulation.polls import OPERATORS
 from checks.simulation.program import Run
 from checks.simulation.radios import BATCH, Radio, Receiver, Transmitter, Writer
 from checks.simulation.refusals import Refusals
@@ -20,7 +21,8 @@ from keeper.config import Settings
 from keeper.errors import Fault
 
 STATE, RUNTIME, FEEDS = "/var/lib/radio", "/run/radio", "/srv/radio"
-PROGRAM = "/usr/bin/radio_ntpd"
+PROGRAM, LEAP = "/usr/bin/radio_ntpd", f"{FEEDS}/leap"
+JITTER = 0.015  # how early or late marks are at most that are steadied (s)
 CALM = 4.0  # after so long without a disturbance, and before the next one, time is passed over (s)
 BUSY, SOME = 1.0, 0.1  # after so long already, a little of it (s)
 FAR = 1e9
@@ -36,6 +38,7 @@ class Kind:
     stall: int = 60
     handed_over: bool = True
     rate: float = 5.0  # requests of clients a second, on each port
+    extras: tuple[str, ...] = ()  # `servers`, `steady`, `leap`: what the station has besides
 
 
 class Machine:
@@ -56,6 +59,7 @@ class Machine:
         self.planned: list[float] = []
         self.version = 0
         self.said = ""  # how the next reload is judged
+        self.server = ""  # its answers: "late" or "lost"
         self.kills: Any = None  # the supervisor's own process
         self.given_up = False  # its loop spins: there is nothing more to see
         self.slow = 0.0  # how long a job of the disk takes (s)
@@ -68,6 +72,9 @@ class Machine:
             if source != "command":
                 self.disk.create(path, source)
                 self.transmitter.writers[number] = Writer(self.world, self.disk, radio, path)
+        if "leap" in kind.extras:
+            self.disk.create(LEAP, by_host=True)
+        self.transmitter.jitter = JITTER if "steady" in kind.extras else 0.0
         self.settings = self.make_settings()
         self.transmitter.batch = lambda: max(1, min(BATCH, int(self.calm())))
         if kind.handed_over:
@@ -111,14 +118,22 @@ class Machine:
             rows.append({"plan": "dcf", "log": "x", "delay": tag})
             radios.append(RadioSettings(
                 kind=one.kind, value=one.source, name=f"radio {one.number}",
-                stall=float(self.kind.stall), plan="dcf", delay=tag / 1e6))
+                stall=float(self.kind.stall), plan="dcf", delay=tag / 1e6,
+                steady="steady" in self.kind.extras))
         ports = list(self.kind.ports)
-        text = {"bound": 1000, "radio": rows, "link": [{"port": port} for port in ports]}
+        text: dict[str, Any] = {"bound": 1000, "radio": rows,
+                                "link": [{"port": port} for port in ports]}
+        servers = [("192.0.2.7", 123)] if "servers" in self.kind.extras else []
+        if servers:
+            text["server"] = [{"address": "192.0.2.7", "polls": OPERATORS}]
+        leap = LEAP if "leap" in self.kind.extras else None
+        if leap:
+            text["leap_file"] = leap
         values: dict[str, Any] = {
             "path": "/etc/radio/keeper.toml", "station": "/etc/radio/station.toml", "text": text,
             "program": PROGRAM, "folder": STATE, "runtime": RUNTIME, "cycle": self.kind.cycle,
-            "days": 30, "pace": 16, "radios": radios, "links": ports, "servers": [], "denied": [],
-            "gap": 0.0, "bound": 1.0, "leap_file": None, "room": 1 << 30}
+            "days": 30, "pace": 16, "radios": radios, "links": ports, "servers": servers,
+            "denied": [], "gap": 0.0, "bound": 1.0, "leap_file": leap, "room": 1 << 30}
         known = {one.name for one in dataclasses.fields(Settings)}
         return Settings(**{key: value for key, value in values.items() if key in known})
 

@@ -13,6 +13,7 @@ from typing import TYPE_CHECKING
 from checks.simulation.air import Air
 from checks.simulation.feed import MINUTES, NEAR, Feed
 from checks.simulation.opened import Open, PairEnd, PipeReader
+from checks.simulation.polls import Polls
 from checks.simulation.processes import Process
 from checks.simulation.sockets import Server
 from checks.simulation.texts import journal_of, reply_of
@@ -22,6 +23,7 @@ if TYPE_CHECKING:
     from checks.simulation.judge import Judge
 
 HEARINGS = 1_000_000
+LEAP = "/srv/radio/leap"
 TOLD = 10.0  # within which it is gone once it was told to end, whatever is wrong with it (s)
 
 
@@ -41,6 +43,7 @@ class Run(Process):
         self.lag = 0.0  # it reads only after so long (s)
         self.epoch = world.epoch
         self.offset: float | None = None
+        self.polls: list[Polls] = []
         self.token = ""
         self.went_at = 0.0
 
@@ -93,6 +96,8 @@ class Run(Process):
             assert isinstance(reader, PipeReader)
             self.feeds.append(Feed(self, place, int(row["delay"]), reader))
             reader.pipe.listener = self.poll
+        if not self._open_others(values, dict(one for one in words if one[0] == "pace")):
+            return
         for place, row in enumerate(list(values.get("link", []))):  # type: ignore[call-overload]
             link = next((one for one in given if isinstance(one, Server)
                          and one.port == row["port"]), None)
@@ -106,6 +111,21 @@ class Run(Process):
         self.is_open = True
         self.told()
         self.poll()
+
+    def _open_others(self, values: dict[str, object], pace: dict[str, str]) -> bool:
+        """Its servers and its leap second file. Whether it goes on."""
+        there = self.judge.machine.disk.find(LEAP)
+        if "leap_file" in values and not there:
+            self._say(f"radio_ntpd: cannot read {LEAP}\n")
+            self.end(2)
+            return False
+        if there and "leap_file" not in values and self.world.now - self.judge.lasts > 1.0:
+            self.judge.found("a run goes without its leap second file", str(self))
+        for row in list(values.get("server", [])):  # type: ignore[call-overload]
+            if not pace:
+                self.judge.found("a run isn't told its pace", str(self))
+            self.polls.append(Polls(self, int(row["polls"]), float(pace.get("pace", 1.0))))
+        return True
 
     def _say(self, text: str) -> None:
         errors = self.table.get(2)
@@ -127,8 +147,13 @@ class Run(Process):
         if self._is_told() and not self.is_ending:
             self.is_ending = True
             self.world.at(self.world.random.uniform(0.0, 0.25), self.finish)
+        if "ask" in self.signals and self.signals["ask"].readable():
+            for one in self.polls:
+                one.begin()
         if self.went() and not self.served:
             self.served, self.went_at = True, self.world.now
+            for one in self.polls:
+                one.serves()
             self._serve()
         self.world.disturb()
 

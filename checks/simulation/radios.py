@@ -49,6 +49,7 @@ class Transmitter:
         self.turn = 0
         self.batch = lambda: 1
         self.again = 60.0
+        self.jitter = 0.0  # how early or late a mark is at most (s)
         world.wakes.append(self.woken)
 
     def start(self) -> None:
@@ -83,7 +84,8 @@ class Transmitter:
         for second in seconds:
             ago = true - second
             if ago < self.world.now - self.since and second not in radio.holes:
-                lines.append(self.air.line(radio.number, target.source, second, ago))
+                off = self.world.random.uniform(-1, 1) * self.jitter if self.jitter else 0.0
+                lines.append(self.air.line(radio.number, target.source, second, ago, off))
         if lines and target.put(b"".join(line for line, _ in lines)):
             radio.received = self.world.now
             for _, mark in lines:

@@ -177,7 +177,9 @@ class Service:
         run = self.next
         if run is None:
             return
-        asked = ASKED.get(cause, 0.0) if self.settings.servers else 0.0
+        # A reload that was put off is in no hurry.
+        alike = "cycle" if cause == "reload" and self.refusals.span else cause
+        asked = ASKED.get(alike, 0.0) if self.settings.servers else 0.0
         if asked:
             run.tell("ask")
             if now - run.asks_since < asked:

@@ -198,6 +198,20 @@ class Servers(Case):
         self.turn(lambda: waiting.told("go"), 20)
         self.assertAlmostEqual(self.host.now - asked, 10.0, delta=0.2)
 
+    def test_a_reload_that_was_put_off_has_its_servers_answers(self) -> None:
+        self.host.needs = 5
+        self.begin()
+        self.pulse(5)
+        self.turn(3.0)
+        hurried = self.host.programs()[1]
+        hurried.needs = 100
+        self.service.wants_reload = True
+        self.assertLess(self.turn(lambda: hurried.status is not None, 5), 2.0)
+        self.turn(2.0)
+        later = self.host.programs()[1]
+        self.turn(lambda: later.told("ask"), 70)
+        self.assertAlmostEqual(self.turn(lambda: later.told("go"), 20), 10.0, delta=0.2)
+
     def test_at_a_death_it_asks_at_once(self) -> None:
         self.begin()
         self.turn(5.0)
