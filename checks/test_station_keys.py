@@ -17,7 +17,7 @@ ROW = re.compile(r'pub const (\w+): Row = Row \{\s*key: "(\w+)",\s*form: Form::(
 LISTS = {"TOP_ROWS": "", "RADIO_ROWS": "radio", "SERVER_ROWS": "server", "LINK_ROWS": "link", "KEY_ROWS": "key", "DENY_ROWS": "deny"}
 LIST = re.compile(r"const (\w+_ROWS): \[Row; (\d+)\] = \[([^\]]*)\];")
 SENTENCE = re.compile(r'Range \{\s*table: "(\w*)",\s*name: "(\w+)",\s*wants: "((?:[^"\\]|\\.)*)"')
-DEFAULT = re.compile(r'(?:_number\(\w+, |\.get\()"(\w+)", (\d+)\)')
+DEFAULT = re.compile(r'(?:_value\(\w+, |\.get\()"(\w+)", (\d+)\)')
 
 
 class Row(NamedTuple):

@@ -7,8 +7,8 @@ import sys
 import time
 from collections.abc import Iterator
 
-from keeper import config
-from keeper.check import keeper_runs, pieces
+from keeper import config, lock
+from keeper.check import pieces
 from keeper.chosen_file import chosen
 from keeper.errors import DONE, NOT_WELL, Fault
 from keeper.host_checks import become_service
@@ -86,7 +86,7 @@ def listen(settings: config.Settings, number: int, server: Server | None,
 def heard(settings: config.Settings, number: int, seconds: float) -> Iterator[tuple[int, bytes]]:
     """The pieces of a radio's source; those of its log of the day where a keeper runs."""
     host, radio = Host(), settings.radios[number]
-    if not keeper_runs(settings):
+    if not lock.is_taken(settings.folder):
         yield from pieces(host, source_of(host, radio.kind, radio.value), seconds)
         return
     folder = os.path.join(settings.folder, "logs")

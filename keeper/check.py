@@ -24,7 +24,7 @@ def main(asked: argparse.Namespace) -> int:
     """The exit status."""
     settings = config.load(chosen(asked.config))
     found = [tell((Level.WELL, f"{settings.path}: every key is known and in range"))]
-    running = keeper_runs(settings)
+    running = lock.is_taken(settings.folder)
     found += map(tell, host_checks.look_at_ports(settings, running))
     found += map(tell, host_checks.become_service(settings))
     found += map(tell, judge_station(settings) + host_checks.look(settings))
@@ -43,11 +43,6 @@ def tell(finding: Finding) -> Finding:
     level, text = finding
     print(plain(f"{level.value:<5} {text}"), flush=True)
     return finding
-
-
-def keeper_runs(settings: config.Settings) -> bool:
-    """Whether a keeper has this station's folder: it holds a lock there as long as it lives."""
-    return lock.is_taken(settings.folder)
 
 
 def judge_station(settings: config.Settings) -> list[Finding]:

@@ -7,7 +7,7 @@ import re
 import subprocess
 import tomllib
 from dataclasses import dataclass, field
-from typing import BinaryIO, NoReturn
+from typing import BinaryIO, NoReturn, TypeVar, cast
 
 from keeper.chosen_file import built_program
 from keeper.errors import REFUSED, Fault, reason, sentence
@@ -16,6 +16,7 @@ from keeper.errors import REFUSED, Fault, reason, sentence
 # old (s).
 UNPACED_CYCLE = 300
 KINDS = ("command", "fifo", "file")
+Value = TypeVar("Value")
 JUDGED = 20.0  # how long the program may take to judge a station file (s)
 MOST = 65536  # bytes of a station file
 LARGEST = 2**53  # no number of a station is greater
@@ -156,27 +157,23 @@ class File:
 
 # Of the station, which the program judges later, and which may have anything now.
 
-def _number(values: dict, key: str, default: int) -> int:
-    """A number; the default where it is none, or so great that the program refuses it anyway."""
+def _value(values: dict, key: str, default: Value) -> Value:
+    """A value of the default's type; the default where it is none, or a number so great that the
+    program refuses it anyway."""
     value = values.get(key)
-    return value if type(value) is int and abs(value) < LARGEST else default
-
-
-def _text(values: dict, key: str) -> str:
-    """A text, empty where it is none."""
-    value = values.get(key)
-    return value if isinstance(value, str) else ""
+    is_good = type(value) is type(default) and (type(value) is not int or abs(value) < LARGEST)
+    return cast(Value, value) if is_good else default
 
 
 def _tables(values: dict, key: str) -> list[dict]:
     """The tables of an array."""
-    found = values.get(key)
-    return [one for one in found if isinstance(one, dict)] if isinstance(found, list) else []
+    rows: list = _value(values, key, [])
+    return [one for one in rows if isinstance(one, dict)]
 
 
 def _port(values: dict) -> int:
     """The port of a link or a server, 1 to 65535; 0 where it has none."""
-    port = _number(values, "port", 0)
+    port = _value(values, "port", 0)
     return port if 0 < port < 65536 else 0
 
 
@@ -198,7 +195,7 @@ def load(path: str) -> Settings:
         file.refuse("radio", f"there are {len(radios)} tables [[radio]] here, and {len(tables)} in "
                     f"{station_path}")
     servers = [(address, port) for one in _tables(station, "server")
-               if (address := _text(one, "address")) and (port := _port(one))]
+               if (address := _value(one, "address", "")) and (port := _port(one))]
     pace, folder = values.get("pace", 16), file.beside(values.get("state", "state"))
     return Settings(
         path=os.path.abspath(path), station=station_path, text=station,
@@ -209,9 +206,9 @@ def load(path: str) -> Settings:
         radios=[_radio(file, *both) for both in zip(radios, tables)],
         links=[port for one in _tables(station, "link") if (port := _port(one))],
         servers=servers,
-        denied=[net for one in _tables(station, "deny") if (net := _text(one, "net"))],
-        gap=_number(station, "gap", 0) / 1e6, bound=_number(station, "bound", 1000) / 1e3,
-        leap_file=_text(station, "leap_file") or None, alarms=Alarms(**alarms))
+        denied=[net for one in _tables(station, "deny") if (net := _value(one, "net", ""))],
+        gap=_value(station, "gap", 0) / 1e6, bound=_value(station, "bound", 1000) / 1e3,
+        leap_file=_value(station, "leap_file", "") or None, alarms=Alarms(**alarms))
 
 
 def _judge_radio(file: File, values: object, place: int) -> None:
@@ -230,9 +227,9 @@ def _radio(file: File, values: dict, table: dict) -> Radio:
     """A radio of the keeper's file, and its table of the station."""
     kind = next(kind for kind in KINDS if kind in values)
     value = values[kind] if kind == "command" else file.beside(values[kind])
-    plan = _text(table, "plan")
+    plan = _value(table, "plan", "")
     return Radio(kind, value, values.get("name", plan), values.get("stall", 60), plan,
-                 _number(table, "delay", 0) / 1e6, values.get("steady", False))
+                 _value(table, "delay", 0) / 1e6, values.get("steady", False))
 
 
 def judge(settings: Settings) -> None:

@@ -27,7 +27,7 @@ class Fault(Exception):
 def reason(said: bytes) -> str:
     """The program's own last sentence on its standard error, without its name; nothing where it
     says none."""
-    lines = said.decode("utf-8", "replace").splitlines()
+    lines = said.decode("utf-8", "replace").strip().splitlines()
     return lines[-1].removeprefix("radio_ntpd: ") if lines else ""
 
 

@@ -6,8 +6,7 @@ import os
 import signal
 import time
 
-from keeper import config
-from keeper.check import keeper_runs
+from keeper import config, lock
 from keeper.chosen_file import chosen
 from keeper.supervisor.reports import FACTS
 from keeper.errors import DONE, REFUSED, Fault
@@ -20,7 +19,7 @@ def main(asked: argparse.Namespace) -> int:
     """The exit status: 78 where the keeper refuses a file."""
     settings = config.load(chosen(asked.config))
     path = os.path.join(settings.runtime, FACTS)
-    if not keeper_runs(settings):
+    if not lock.is_taken(settings.folder):
         raise Fault(f"no keeper has {settings.folder}")
     before = told(path)
     os.kill(before[0], signal.SIGHUP)

@@ -1,10 +1,10 @@
 """Files that are whole or not there, and the names of days."""
 
 import contextlib
-import datetime
 import errno
 import logging
 import os
+import time
 
 from keeper.supervisor.host import Host
 
@@ -42,7 +42,7 @@ def why(fault: BaseException | None) -> str:
 
 def day_of(unix: float) -> str:
     """The day of UTC of a moment (Unix s)."""
-    return datetime.datetime.fromtimestamp(unix, datetime.timezone.utc).strftime("%Y%m%d")
+    return time.strftime("%Y%m%d", time.gmtime(unix))
 
 
 def read_all(host: Host, path: str, most: int, from_end: bool = False) -> bytes:

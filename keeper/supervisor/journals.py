@@ -2,10 +2,10 @@
 keeper's own datagrams."""
 
 import contextlib
-import datetime
 import logging
 import os
 import re
+import time
 
 from keeper.supervisor import disk
 from keeper.supervisor.host import Host, Task
@@ -24,8 +24,7 @@ log = logging.getLogger(__name__)
 
 def name_of(unix: float, number: int) -> str:
     """The name of a run that began at this moment (Unix s)."""
-    when = datetime.datetime.fromtimestamp(unix, datetime.timezone.utc)
-    return f"{when:%Y%m%dT%H%M%SZ}-{number}"
+    return time.strftime(f"%Y%m%dT%H%M%SZ-{number}", time.gmtime(unix))
 
 
 def status_of(text: bytes) -> str:

@@ -140,12 +140,11 @@ class PulseLog:
             for name in self.host.names(self.folder):
                 if name.startswith(self.begin) and name.endswith(self.end):
                     with contextlib.suppress(OSError):
-                        pulses = map(reading, self._tail(name).split(b"\n")[:-1])
-                        found |= {one.start: one for one in pulses if isinstance(one, Pulse)}
+                        path = os.path.join(self.folder, name)
+                        text = disk.read_all(self.host, path, TAIL, from_end=True)
+                        # Of a longer log the first line may be half a line.
+                        lines = text.split(b"\n")[len(text) == TAIL:-1]
+                        found |= {one.start: one for line in lines
+                                  if isinstance(one := reading(line), Pulse)}
         now = int(self.host.monotonic() * 1e6)
         return [found[one] for one in sorted(found) if now - OLDEST <= one <= now]
-
-    def _tail(self, name: str) -> bytes:
-        """The whole lines of a log's end, but perhaps for the last."""
-        text = disk.read_all(self.host, os.path.join(self.folder, name), TAIL, from_end=True)
-        return text.partition(b"\n")[2] if len(text) == TAIL else text

@@ -14,7 +14,7 @@ from keeper.supervisor.pipes import Outlet
 from keeper.supervisor.host import Child, Host
 from keeper.supervisor.journals import OUT, name_of
 from keeper.supervisor.radios import Feed, Heard
-from keeper.errors import ended
+from keeper.errors import ended, reason
 
 HEARINGS = 1_000_000  # the most that `serve` takes
 POLLS = 100_000  # the most that a station takes
@@ -193,9 +193,8 @@ class Run:
         status, said = self.status(), b""
         with contextlib.suppress(OSError):
             said = self.host.read(self.errors, SENTENCES)
-        lines = said.decode("utf-8", "replace").strip().splitlines() or [""]
-        why = lines[-1].removeprefix("radio_ntpd: ")
-        return ": ".join(filter(None, ("doesn't answer" if status is None else ended(status), why)))
+        how = "doesn't answer" if status is None else ended(status)
+        return ": ".join(filter(None, (how, reason(said))))
 
     def _close_pipes(self) -> None:
         for outlet in self.outlets.values():

@@ -126,7 +126,7 @@ class Fifo(Source):
     def stalls(self) -> bool:
         """Whether another FIFO has its name by now: that one's writer waits for a reader."""
         try:
-            return not _is_one(self.host.stat(self.value), self.host.stat(self.descriptor))
+            return not os.path.samestat(self.host.stat(self.value), self.host.stat(self.descriptor))
         except OSError:
             return False
 
@@ -153,7 +153,7 @@ class Growing(Source):
         if not stat.S_ISREG(here.st_mode):
             self.close()
             raise OSError(0, "it is no file", self.value)
-        if not self.known or not _is_one(self.known, here) or here.st_size < self.place:
+        if not self.known or not os.path.samestat(self.known, here) or here.st_size < self.place:
             start = max(0, here.st_size - TAIL)
             tail = self.host.read_at(self.file, here.st_size - start, start)
             age = self.host.realtime() - here.st_mtime
@@ -170,7 +170,7 @@ class Growing(Source):
             there = self.host.stat(self.value)
         except FileNotFoundError as error:
             raise Ended("its file was taken away") from error
-        if not _is_one(there, here):
+        if not os.path.samestat(there, here):
             raise Ended("its file was replaced")
         if here.st_size < self.place:
             raise Ended("its file was made shorter")
@@ -179,10 +179,6 @@ class Growing(Source):
     def close(self) -> None:
         self.host.close(self.file)
         self.file = -1
-
-
-def _is_one(first: os.stat_result, second: os.stat_result) -> bool:
-    return (first.st_dev, first.st_ino) == (second.st_dev, second.st_ino)
 
 
 def live_from(host: Host, tail: bytes, is_cut: bool, age: float) -> int:

@@ -51,6 +51,7 @@ class Supervisor:
         self.lock = -1
         self.links: dict[int, int] = {}  # sockets by their ports
         self.ports = clocks.Pause(*PAUSES)  # after a port was refused
+        self.logs = os.path.join(settings.folder, "logs")
         self.archive = Archive(host, os.path.join(settings.folder, "journals"))
         self.service = Service(host, settings, self.archive)
         self.reports = Reports(host, settings.runtime, self._facts)
@@ -79,7 +80,7 @@ class Supervisor:
         for place, radio in enumerate(self.settings.radios):
             self.feeds.append(self._feed(place, radio))
             self.feeds[-1].recall(self.feeds[-1].log.last_pulses())
-        self.closing.append(self.host.aside(lambda: mend(self.host, self._logs())))
+        self.closing.append(self.host.aside(lambda: mend(self.host, self.logs)))
         self.host.notify("READY=1")
 
     def _feed(self, place: int, radio: Radio) -> Feed:
@@ -87,10 +88,7 @@ class Supervisor:
 
     def _log(self, place: int, radio: Radio) -> PulseLog:
         tag = clocks.tag_of(self.counter, f"{radio.kind} {radio.value}")
-        return PulseLog(self.host, self._logs(), place, radio.plan, tag)
-
-    def _logs(self) -> str:
-        return os.path.join(self.settings.folder, "logs")
+        return PulseLog(self.host, self.logs, place, radio.plan, tag)
 
     def _heard(self, feed: Feed, heard: list[Heard]) -> None:
         """Pulses of a radio go to the runs first."""

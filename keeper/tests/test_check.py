@@ -55,14 +55,14 @@ class Running(Folder):
         """Whatever its state says: it may have been stopped a moment ago, or have no room for a new
         one."""
         settings = Mock(folder=os.path.join(self.folder, "state"))
-        self.assertFalse(check.keeper_runs(settings))
+        self.assertFalse(lock.is_taken(settings.folder))
         os.mkdir(settings.folder)
         save(Host(), State(written=time.time()), os.path.join(settings.folder, "state.json"))
-        self.assertFalse(check.keeper_runs(settings))
+        self.assertFalse(lock.is_taken(settings.folder))
         keeper = lock.take(Host(), settings.folder)
-        self.assertTrue(check.keeper_runs(settings))
+        self.assertTrue(lock.is_taken(settings.folder))
         os.close(keeper)
-        self.assertFalse(check.keeper_runs(settings))
+        self.assertFalse(lock.is_taken(settings.folder))
 
 
 class Whole(Folder):
@@ -111,7 +111,7 @@ class Whole(Folder):
                                r"leaves them out; the first: '\d+ 100000\\r': a carriage return")
 
     def test_a_keeper_that_runs_reads_the_receivers(self) -> None:
-        with mock.patch.object(check, "keeper_runs", return_value=True):
+        with mock.patch.object(lock, "is_taken", return_value=True):
             status, said = self.run_check("--seconds", "9")
         self.assertEqual(status, 0)
         self.assertIn("note  a keeper runs and reads the receivers: `radio_keeper status` says how "

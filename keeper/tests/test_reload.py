@@ -50,8 +50,8 @@ class Asked(unittest.TestCase):
     """`reload` by what the keeper's file says after each look."""
 
     def reload(self, *found: tuple[int, int, str]) -> int:
-        parts: dict[str, Any] = {"told": mock.Mock(side_effect=found), "keeper_runs": lambda settings: True,
-                 "chosen": str, "LOOK": 0.0}
+        parts: dict[str, Any] = {"told": mock.Mock(side_effect=found), "chosen": str, "LOOK": 0.0,
+                                 "lock": mock.Mock()}  # a keeper has the folder
         settings = mock.Mock(runtime="/run/radio_ntpd")
         with mock.patch.multiple(reload, **parts), mock.patch("os.kill") as kill:
             with mock.patch.object(reload.config, "load", return_value=settings):
