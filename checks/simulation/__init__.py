@@ -31,7 +31,8 @@ in bursts of one to ten. A burst ends when no fault was in force for a minute.
 - A run has its pace and polls for a year, asks no server 15 s before it serves, and has three
   answers by then where they come. It has the leap second file wherever that can be read.
 - Marks are up to 15 ms early or late where they are steadied: 200 in a row are within 6 ms of the
-  second, none is off by more than 21 ms, and logs have them as they came.
+  second, none is off by more than 21 ms and a pause that nobody saw, and logs have them as they
+  came.
 - A run that printed its journal has it on the disk, whole, unless a disk was in trouble or a
   sentence says that it is lost; of one that was killed a sentence says so within 15 s. Without a
   fault none is killed. One that was told to end is gone within ten seconds.

@@ -21,6 +21,7 @@ SHOWN, LOOKED = 0.3, 2.0  # a sleep shown by the real-time clock, to who looked 
 ENDED = 4.0  # a supervisor that is started sooner after a sleep is told nothing of it (s)
 HARMLESS = ("late", "stand", "kill-run", "die-run", "hup", "fade", "set", "kill-reporter")
 MARKS, STEADY, SPOILT = 200, 6000, 21_000  # so many marks in a row are steady within (us); others
+AGAIN, MOVED = 300.0, 80_000  # a pause that isn't seen spoils them for so long (s), by so much (us)
 MOST = 2  # findings of a rule that are kept
 
 
@@ -59,6 +60,7 @@ class Judge:
         self.woke_at = self.jumped_at = -1e9
         self.is_shown = False  # the last of these, by the real-time clock
         self.unseen = 0.0  # sleeps since the supervisor's start that are too short to be seen (s)
+        self.pauses: list[tuple[float, float]] = []  # when nobody saw one, and how long it was (s)
         # Since when the run that serves reads pulses that came after that, and the last of them.
         self.heard_at = self.fed_at = -1e9
         self.spawns: list[float] = []
@@ -112,6 +114,8 @@ class Judge:
         self.unseen += seconds
         if self.unseen >= SEEN:
             self.unseen, self.woke_at = 0.0, self.world.now
+        else:
+            self.pauses.append((self.world.now, seconds))
         self.taken()
 
     def jumped(self, seconds: float) -> None:
@@ -119,6 +123,8 @@ class Judge:
         to a supervisor that has looked at it for a while."""
         self.woke_at = self.jumped_at = self.world.now
         self.is_shown = seconds >= SHOWN and self.world.now - self.started_at > LOOKED
+        if not self.is_shown:
+            self.pauses.append((self.world.now, seconds))
         self.taken()
 
     def started(self) -> None:
@@ -187,11 +193,18 @@ class Judge:
             self.found("a pulse of another source reaches a run",
                        f"{run}, radio {feed.number} ({self.tags.get(feed.tag)}): {mark.source}")
         late = start - mark.start + mark.off
-        if start != mark.start and "steady" not in self.machine.kind.extras:
-            self.found("a pulse was moved", f"{start} in place of {mark.start}")
-        elif abs(late) > (STEADY if mark.row >= MARKS and mark.at - self.started_at > MARKS
-                          else SPOILT):
+        is_steady = mark.row >= MARKS and mark.at - self.started_at > MARKS
+        if "steady" not in self.machine.kind.extras:
+            if start != mark.start:
+                self.found("a pulse was moved", f"{start} in place of {mark.start}")
+        elif abs(late) > (STEADY if is_steady else self.spoilt()):
             self.found("a pulse is off what steadies it", f"{late} us, the {mark.row}th in a row")
+
+    def spoilt(self) -> float:
+        """How far off a mark may be that isn't steady yet (us): by a pause that nobody saw the line
+        is off until enough marks came."""
+        pauses = sum(span for at, span in self.pauses if self.world.now - at < AGAIN)
+        return SPOILT + min(pauses * 1e6, MOVED)
 
     def ended(self, run: "Run") -> None:
         self.kept.ended(run)
