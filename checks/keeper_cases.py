@@ -141,6 +141,7 @@ def flood(base: float, count: int = 2_000_000) -> int:
         kept.start()
         kept.waits("run 1 has the time")
         client = kept.client(base)
+        looks = subprocess.Popen([sys.executable, "-B", "-m", "lab.unread", str(kept.port)], stdin=subprocess.PIPE, stdout=subprocess.PIPE, text=True)
         time.sleep(0.5)
         began = time.monotonic()
         with to_server(kept.port, None) as out:
@@ -156,8 +157,8 @@ def flood(base: float, count: int = 2_000_000) -> int:
         took = time.monotonic() - began
         time.sleep(3)
         runs = kept.text().count(") serves")
-        met = client.report()
-        print(f"  flood of {sent} in {took:.1f} s, {runs} runs: {brief(met)}", flush=True)
+        met, (seen, _) = client.report(), looks.communicate()
+        print(f"  flood of {sent} in {took:.1f} s, {runs} runs: {brief(met)}; at the port: {seen.strip()}", flush=True)
         looked = due(met["wrong"] == 0, f"a client got a wrong time: {brief(met)}")
         looked += LATE.due(met["silent"], bound(FLOODED, met["stalled"], 2 * FLOODED), f"a flood silences clients: {brief(met)}")
         looked += due(runs >= 2, "a flood uses up no run")

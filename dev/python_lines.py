@@ -8,6 +8,7 @@ A line with code and a comment counts as code. A text that stands first in a mod
 import argparse
 import ast
 import io
+import os
 import tokenize
 from collections import Counter
 from pathlib import Path
@@ -43,6 +44,8 @@ def lines_of(text: str) -> Counter[str]:
 
 def measure(folders: list[str]) -> int:
     """Measures the files of these folders. Raises OSError."""
+    for folder in folders:
+        os.stat(folder)
     paths = [path for folder in folders for path in sorted(Path(folder).rglob("*.py")) if "tests" not in path.parts]
     counts = {str(path): lines_of(path.read_text(encoding="utf-8")) for path in paths if not path.name.startswith("test_")}
     print(f"{'file':44}{'lines':>8}" + "".join(f"{kind:>11}" for kind in KINDS))
