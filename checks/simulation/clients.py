@@ -100,7 +100,7 @@ class Clients:
             judge = self.judge
             ends = judge.woke_at + AWAKE
             if judge.jumped_at == judge.woke_at and judge.is_shown:
-                ends = judge.woke_at + PAUSED
+                ends = max(judge.woke_at, self.world.late, judge.stands) + PAUSED
             elif judge.jumped_at == judge.woke_at:
                 if judge.heard_at < judge.jumped_at or self.world.now - judge.fed_at > GAP:
                     return None  # nothing comes that could say so

@@ -21,7 +21,7 @@ SHOWN, LOOKED = 0.3, 2.0  # a sleep shown by the real-time clock, to who looked 
 ENDED = 4.0  # a supervisor that is started sooner after a sleep is told nothing of it (s)
 HARMLESS = ("late", "stand", "kill-run", "die-run", "hup", "fade", "set", "kill-reporter")
 MARKS, STEADY, SPOILT = 200, 6000, 21_000  # so many marks in a row are steady within (us); others
-AGAIN, MOVED = 300.0, 80_000  # a pause that isn't seen spoils them for so long (s), by so much (us)
+WINDOW, MOVED = 600.0, 80_000  # a line has the marks of so long (s), and moves them so far (us)
 MOST = 2  # findings of a rule that are kept
 
 
@@ -194,17 +194,18 @@ class Judge:
                        f"{run}, radio {feed.number} ({self.tags.get(feed.tag)}): {mark.source}")
         late = start - mark.start + mark.off
         is_steady = mark.row >= MARKS and mark.at - self.started_at > MARKS
+        most = (STEADY if is_steady else SPOILT) + self.moved(mark.at)
         if "steady" not in self.machine.kind.extras:
             if start != mark.start:
                 self.found("a pulse was moved", f"{start} in place of {mark.start}")
-        elif abs(late) > (STEADY if is_steady else self.spoilt()):
+        elif abs(late) > most:
             self.found("a pulse is off what steadies it", f"{late} us, the {mark.row}th in a row")
 
-    def spoilt(self) -> float:
-        """How far off a mark may be that isn't steady yet (us): by a pause that nobody saw the line
-        is off until enough marks came."""
-        pauses = sum(span for at, span in self.pauses if self.world.now - at < AGAIN)
-        return SPOILT + min(pauses * 1e6, MOVED)
+    def moved(self, when: float) -> float:
+        """By how much pauses that nobody saw may have moved the line by which a mark of a moment
+        was steadied (us)."""
+        pauses = sum(span for at, span in self.pauses if when - WINDOW < at < when + GAP)
+        return min(pauses * 1e6, MOVED)
 
     def ended(self, run: "Run") -> None:
         self.kept.ended(run)

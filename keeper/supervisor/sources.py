@@ -188,6 +188,8 @@ def live_from(host: Host, tail: bytes, is_cut: bool, age: float) -> int:
     that an earlier boot left has other starts than those of `age` ago, and so has one from before
     the host slept. Starts that fall begin another boot's lines."""
     begin = tail.find(b"\n") + 1 if is_cut else 0
+    if (zeros := tail.rfind(b"\0")) >= 0:  # a power cut left them
+        begin = tail.find(b"\n", zeros) + 1 or len(tail)
     place, last, live = begin, -1, begin
     for line in tail[begin:].splitlines(keepends=True):
         first = line.partition(b" ")[0]

@@ -48,6 +48,14 @@ class Boots(Made):
             self.host.asleep = asleep
             self.assertEqual(sources.live_from(self.host, b"999999 1\n", False, 999.0), due)
 
+    def test_what_a_power_cut_left_in_a_file_is_no_minute_before(self) -> None:
+        now = int(self.host.monotonic() * 1e6)
+        before = b"%d 100000\n%d" % (now - 2_000_000, now - 1_000_000)
+        last = b"%d 100000\n" % now
+        for after, live in ((b"", b""), (b"7 100000\n", b""), (b"7 1\n" + last, last)):
+            tail = before + bytes(9) + after
+            self.assertEqual(tail[sources.live_from(self.host, tail, False, 0.0):], live)
+
     def test_a_sleep_that_is_seen(self) -> None:
         clocks, found = Clocks(self.host), []
         for asleep in (0.009, 0.02, 0.5, 10.4):
