@@ -129,7 +129,7 @@ class Receiver(Process):
         if self.fault == "noise":
             data = NOISE + data
         elif self.fault == "flood":
-            data = (b"7" * 400 + b"\n" + b"1 2\n" * 100) * 20 + data
+            data = (b"7" * 400 + b"\n" + b"1 0\n" * 100) * 20 + data
         elif self.fault == "again":
             data, self.before = self.before + data, data
         elif self.fault == "old":
