@@ -7,6 +7,7 @@ from keeper.supervisor.host import Host
 AWAKE = 0.01  # sleeps that are shorter together are none (s)
 LEAST = 2.0  # what the clock is set by less than this moves nothing (s); a slew is none
 READINGS = 5
+INSTALLED, PACKAGED = "/usr/local/lib/radio_ntpd/", "/usr/lib/radio_ntpd/"
 LATE = 0.5  # of the time since the look before no more counts (s)
 
 
@@ -25,7 +26,8 @@ def counter(host: Host, boot: str) -> str:
 
 def tag_of(counter: str, source: str) -> str:
     """Eight digits for the name of a log: its counter and its source, and so what it may be used
-    for."""
+    for. The package's feeders are those of `install`."""
+    source = source.replace(INSTALLED, PACKAGED)
     return hashlib.sha256(f"{counter} {source}".encode(errors="surrogateescape")).hexdigest()[:8]
 
 

@@ -199,6 +199,14 @@ class Counters(Folder):
         self.assertNotEqual(slept, first)
         self.assertNotEqual(tag("command a", "another"), slept)
 
+    def test_who_goes_over_to_the_package_keeps_what_was_received(self) -> None:
+        def tag(prefix: str, feeder: str) -> str:
+            return clocks.tag_of("a counter", f"command {prefix}/lib/radio_ntpd/feeders/{feeder}")
+
+        self.assertEqual(tag("/usr/local", "a.py"), tag("/usr", "a.py"))
+        self.assertNotEqual(tag("/usr/local", "a.py"), tag("/usr", "b.py"))
+        self.assertNotEqual(tag("/usr/local", "a.py"), tag("/opt", "a.py"))
+
     def test_sleeps_of_ten_milliseconds_together_are_seen_once(self) -> None:
         watch = clocks.Clocks(self.host)
         self.host.asleep += 0.009
