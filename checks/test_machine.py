@@ -7,14 +7,18 @@ import calendar
 import contextlib
 import io
 import itertools
+import os
 import pathlib
 import socket
 import struct
+import subprocess
+import sys
 import tempfile
 import time
 import unittest
+import unittest.mock
 
-from checks.machine import evening, outside, receiver, vm
+from checks.machine import evening, modem, outside, pair, receiver, strain, vm
 from checks.machine.client import Client, Judged, judged, silence, worst
 from checks.machine.guest import agent
 from checks.machine.image import Image
@@ -124,6 +128,27 @@ class Bounds(unittest.TestCase):
             self.assertEqual(self.faults(lambda result, some=some: result.right("x", some)), faults)
 
 
+    def test_a_span_without_the_time(self):
+        """The client's answers and the moment of asking: 0.5 s and 2 s without the time."""
+        for longest, faults in ((2.1, 0), (1.9, 1)):
+            client = unittest.mock.Mock(since=lambda began: [answer(0.5), answer(2.5)])
+            trial = unittest.mock.Mock(result=Result())
+            with unittest.mock.patch("time.monotonic", return_value=3.0), contextlib.redirect_stdout(io.StringIO()):
+                strain.met(trial, "x", client, 0.0, longest)
+            self.assertEqual((len(trial.result.figures), len(trial.result.faults)), (2 - faults, faults))
+
+    def test_a_client_of_two(self):
+        """One has the time up to 3 s, the other one from 4.9 s or 5.1 s on."""
+        for first, faults in ((4.9, 0), (5.1, 1)):
+            both = []
+            for some in (range(4), [first, *range(6, 9)]):
+                client = unittest.mock.Mock(since=lambda _, some=some: [answer(one) for one in some])
+                both.append(unittest.mock.Mock(result=Result(), clients=[client]))
+            with unittest.mock.patch("time.monotonic", return_value=9.0), contextlib.redirect_stdout(io.StringIO()):
+                pair.met(both, "x", 0.0)
+            self.assertEqual(len(both[0].result.faults), faults)
+
+
 class Tails(unittest.TestCase):
     def test_what_a_log_says(self):
         for text, tail in (
@@ -182,14 +207,17 @@ class Ends(unittest.TestCase):
         client = Client(self.path, BASE, 200)
         client.start()
         self.addCleanup(client.close)
-        for _ in range(2):
+        for number in (1, 2):
             ours = self.accepted()
             asked = ours.recv(50, socket.MSG_WAITALL)
             self.assertEqual(asked[:3], b"\0\x7b\x23")  # port 123, a client's request
             now = round((NOON + time.monotonic() + 5 + UNIX) * WHOLE)
             ours.sendall(reply(request(1), now, now))  # nobody asked for this one
             ours.sendall(reply(asked[2:], now, now))
-            self.assertTrue(client.waits(lambda one: 1 < one.error <= 5 and one.is_wrong, 10))
+            end = time.monotonic() + 10
+            while len(client.answers) < number and time.monotonic() < end:
+                time.sleep(0.01)
+            self.assertEqual([1 < one.error <= 5 and one.is_wrong for one in client.answers], [True] * number)
             ours.close()
         self.assertEqual(len(client.answers), 2)
 
@@ -209,6 +237,21 @@ class Ends(unittest.TestCase):
             stream.next(time.monotonic() + 10)
 
 
+class Lines(unittest.TestCase):
+    """DCD as QEMU sees it: its library answers for a terminal that has no such line."""
+
+    def test_a_modem_line(self):
+        port = modem.Modem(pathlib.Path(self.enterContext(tempfile.TemporaryDirectory())))
+        self.addCleanup(port.close)
+        asked = "import array, fcntl, termios as t; b = array.array('i', [0]); fcntl.ioctl(0, t.TIOCMGET, b); print(b[0] & t.TIOCM_CD)"
+        for level, bit in ((False, 0), (True, 0x40)):
+            port.move(level)
+            env = os.environ | port.environment()
+            done = subprocess.run([sys.executable, "-c", asked], stdin=port.ends[1], env=env, capture_output=True)
+            self.assertEqual(int(done.stdout), bit)
+        self.assertEqual(port.figures.moved, 1)
+
+
 class Words(unittest.TestCase):
     def test_the_pages_steps(self):
         page = evening.PAGE.read_text(encoding="utf-8")
@@ -223,6 +266,14 @@ class Words(unittest.TestCase):
         self.assertEqual(words[words.index("-nic") + 1], "none")
         self.assertIn("-nodefaults", words)
         self.assertFalse([word for word in words if "netdev" in word or "hostfwd" in word])
+
+    def test_a_wire_has_two_ends(self):
+        """Only the first waits for the other, and their cards differ."""
+        both = [" ".join(pair.Wire(pathlib.Path("/w"), number).words()) for number in (1, 2)]
+        self.assertEqual(["server=on" in one for one in both], [True, False])
+        self.assertEqual(len({one.partition("mac=")[2] for one in both}), 2)
+        machine = vm.words(Image(*map(pathlib.Path, "kid")), pathlib.Path("/w"), (), [pair.Wire(pathlib.Path("/w"), 1)])
+        self.assertIn(both[0], " ".join(machine))
 
     def test_the_agent(self):
         for command, status, text in (("echo a; exit 3", 3, "a\n"), ("", 0, ""), ("echo a; sleep 9", 124, "a\n")):

@@ -22,13 +22,16 @@ import time
 from collections.abc import Callable
 from pathlib import Path
 
-from checks.machine import evening, inside, outside
-from checks.machine.image import STORE
+from checks.machine import changeover, evening, inside, outside, pair, strain
+from checks.machine.image import STORE, run as archive
+from checks.machine.modem import Modem
 from checks.machine.trial import Result, Trial
+from checks.machine.vm import Fitting
 from lab import ends
 from lab.held import Wrong
 from lab.program import TOP, program
 
+SOURCES = "radio_keeper keeper feeders tools lab/model packaging docs README.md CHANGELOG.md CONTRIBUTING.md"
 CASES: dict[str, Callable[[Trial], None]] = {
     "pause": functools.partial(outside.pause, pauses=(2.0, 31.8, 0.3)),
     "long-pause": functools.partial(outside.pause, pauses=(600.0,)),
@@ -37,6 +40,12 @@ CASES: dict[str, Callable[[Trial], None]] = {
     "cuts": functools.partial(outside.cut, cuts=20),
     "clock": inside.clock,
     "chrony": inside.chrony,
+    "sock": inside.sock,
+    "serial": evening.serial,
+    "memory": strain.memory,
+    "stopped": strain.stopped,
+    "changeover": changeover.case,
+    "pair": pair.case,
     "dead": inside.dead,
     "disk": inside.disk,
     "upgrade": inside.upgrade,
@@ -53,11 +62,25 @@ def built(folder: Path) -> Path:
     return Path(done.stdout.split()[-1])
 
 
+def sources(folder: Path) -> Path:
+    """What an installation from the sources needs, as an archive. Raises Wrong."""
+    made = folder / "sources.tar"
+    archive("tar", "-cf", made, "-C", TOP, *SOURCES.split())
+    return made
+
+
+def fittings(names: list[str], work: Path) -> list[Fitting]:
+    """What these cases want a machine to have. Raises Wrong."""
+    if "serial" in names:
+        return [Modem(work)]
+    return [pair.Wire(work / "wire", 1)] if "pair" in names else []
+
+
 def run(names: list[str], package: Path) -> bool:
     """Runs cases one after the other on a new machine. Whether all held their bounds. A folder is left with the machine's console."""
     work = Path(tempfile.mkdtemp(prefix=f"{names[0]}-", dir=STORE))
     try:
-        with Trial([package], work) as trial:
+        with Trial([package, sources(work)], work, fittings(names, work)) as trial:
             return all([one(name, trial) for name in names])
     except (Wrong, OSError) as wrong:
         print(f"no machine: {wrong} ({work} has its console)", flush=True)

@@ -52,12 +52,13 @@ def silence(answers: Iterable[Judged], began: float, ended: float) -> float:
 
 
 class Client(threading.Thread):
-    """Asks port 123 of the machine's loopback RATE times a second until `close`."""
+    """Asks port 123 of the machine's loopback RATE times a second until `close`, but not while it `rests`."""
 
     def __init__(self, path: Path, base: float, rate: float = 10) -> None:
         super().__init__(daemon=True)
         self.path, self.base, self.rate = path, base, rate
         self.answers: list[Judged] = []
+        self.rests = False
         self._sent: dict[int, float] = {}
         self._held, self._ends = b"", threading.Event()
         self._socket: socket.socket | None = None
@@ -88,7 +89,8 @@ class Client(threading.Thread):
         while not self._ends.is_set():
             wait = due - time.monotonic()
             if wait <= 0:
-                self._ask()
+                if not self.rests:
+                    self._ask()
                 due = max(due + 1 / self.rate, time.monotonic())
             elif self._socket is None:
                 time.sleep(wait)

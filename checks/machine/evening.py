@@ -7,7 +7,7 @@ import shlex
 import time
 
 from checks.machine.client import Client
-from checks.machine.trial import PACKAGE, Trial
+from checks.machine.trial import PACKAGE, TIME, Trial
 from lab.program import TOP
 
 PAGE = TOP / "docs" / "FIRST_EVENING.md"
@@ -48,7 +48,7 @@ class Evening:
 
     def prepare(self) -> None:
         """From the package to the two files."""
-        self.trial.package()
+        self.trial.bring()
         status, text = self.op(f"sudo apt-get install -y {PACKAGE}", 600)
         self.trial.result.need(status == 0, f"apt-get install ends with {status}: {text.splitlines()[-1:]}")
         self.sees(2, r"(RISING EDGE.*\n.*FALLING EDGE.*\n.*){8}")
@@ -86,6 +86,20 @@ class Evening:
             if told is not None and told["text"] != boot:
                 return
         machine.answers(0)
+
+
+def serial(trial: Trial) -> None:
+    """The receiver lies on DCD of a serial port: step 2 of the page, and the service."""
+    trial.install()
+    status, text = trial.machine.shell("timeout 10 /usr/lib/radio_ntpd/feeders/serial_edges.py /dev/ttyS1", 60)
+    trial.result.need(re.search(r"(rising\n.*falling\n.*){8}", text) is not None, f"ten seconds of edges end with {status}: {text[-200:]}")
+    client = trial.served()
+    began = time.monotonic()
+    while trial.level() != "OK" and time.monotonic() - began < TIME:
+        time.sleep(WATCHED / 2)
+    took, said = time.monotonic() - began, trial.status()
+    trial.result.need(said.startswith("OK"), f"after {took:.0f} s status says: {said[:300]}")
+    trial.result.right("a serial port", client.since(began))
 
 
 def case(trial: Trial) -> None:

@@ -143,7 +143,9 @@ def image(work: Path) -> Image:
         raise Wrong("a machine's disk is made by root")
     STORE.mkdir(parents=True, exist_ok=True)
     kernel = version()
-    disk = work / "disk"
-    run("qemu-img", "create", "-q", "-f", "qcow2", "-F", "raw", "-b", base(kernel), disk)
+    disk, beneath = work / "disk", work / "beneath"
+    # Another one may be made of changed sources while this machine runs.
+    os.link(base(kernel), beneath)
+    run("qemu-img", "create", "-q", "-f", "qcow2", "-F", "raw", "-b", beneath, disk)
     boot = root(kernel) / "boot"
     return Image(boot / f"vmlinuz-{kernel}", boot / f"initrd.img-{kernel}", disk)

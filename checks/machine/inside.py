@@ -3,11 +3,15 @@
 import time
 
 from checks.machine.client import Client, silence, worst
-from checks.machine.trial import PACKAGE, Trial
+from checks.machine.receiver import LATE
+from checks.machine.trial import FEEDERS, PACKAGE, Trial
 
 STEPS = ("+10 seconds", "+3 days", "-5 days", "+2 days", "+3 years", "-3 years", "-10 seconds")
 MOVED = 0.005  # by how much more than before answers may be off after a step of the clock, in seconds
 CHRONY = "port 0\nserver 127.0.0.1 iburst\nmakestep 0.1 3\nmaxslewrate 10\ndriftfile /var/lib/chrony/drift\n"
+SOCK = "port 0\nrefclock SOCK /run/chrony.dcf.sock refid DCF poll 4 filter 1 precision 1e-3 delay 0.01\nmakestep 0.1 3\n"
+BRIDGE = f"/opt/machine/radio.sh 0 {{}} {FEEDERS} | {FEEDERS}/steady.py | /usr/sbin/radio_ntpd decode --plan dcf --log /dev/stdin"
+BRIDGE += f" | {FEEDERS}/chrony_sock.py /run/chrony.dcf.sock --delay {round(LATE * 1e6)}"
 STEERED = 600  # how long chronyd steers the machine's clock, in seconds
 NEAR = 0.01  # how far that clock is off at most by then, in seconds
 # How long the disk takes nothing, in seconds: in five minutes a log needs a new block.
@@ -56,6 +60,23 @@ def chrony(trial: Trial) -> None:
     after = offset(trial)
     trial.result.need(abs(after) <= NEAR, f"chronyd brought the clock from {before * 1e3:+.0f} ms to {after * 1e3:+.1f} ms")
     trial.result.right("meanwhile", client.since(began))
+
+
+def sock(trial: Trial) -> None:
+    """chronyd has the verdicts of the decoder as its reference clock, as the page of accuracy has it. No service runs."""
+    trial.install()
+    trial.machine.must("systemctl stop radio_ntpd.socket radio_ntpd", 100)
+    trial.machine.put("/etc/chrony/chrony.conf", SOCK)
+    trial.machine.must("date --set @$(python3 -c 'import time; print(time.time() + 0.335)')")
+    before = offset(trial)
+    trial.machine.must("systemctl unmask chrony && systemctl start chrony", 100)
+    trial.machine.must(f"systemd-run --unit bridge bash -c '{BRIDGE.format(trial.port())}'")
+    for _ in range(STEERED // 60):
+        time.sleep(60)
+        trial.say(f"its clock is {offset(trial) * 1e3:+.1f} ms off; {trial.machine.must('chronyc -c sources').strip()}")
+    after = offset(trial)
+    told = f"chrony_sock.py and chronyd brought the clock from {before * 1e3:+.0f} ms to {after * 1e3:+.1f} ms"
+    trial.result.need(abs(after) <= NEAR, told)
 
 
 def quiet(trial: Trial, name: str, client: Client, began: float) -> None:

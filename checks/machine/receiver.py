@@ -12,6 +12,7 @@ from collections.abc import Iterator
 from dataclasses import dataclass
 from multiprocessing.connection import Connection
 from pathlib import Path
+from typing import Protocol
 
 from lab.receiver import sent
 
@@ -19,7 +20,7 @@ MODES = ("on", "dead", "inverted", "hum")
 HUM = 0.01  # half a period of the mains, in seconds
 LATE = 0.012  # how late a mark comes, as a receiver's filter makes it, in seconds
 STUCK = 5.0  # an edge that isn't confirmed for so long is given up, in seconds
-NICE = -15  # it takes little of a processor, and that at once
+PRIORITY = 2  # it takes little of a processor, and that before QEMU, which has the real-time priority 1
 PAST = 0.5  # an edge that is later than this isn't sent any more, in seconds
 
 
@@ -108,7 +109,20 @@ class Line:
             self.lose()
 
 
-def drive(line: Line, plan: str, base: float, told: Connection) -> None:
+class Moved(Protocol):
+    """A line that the receiver moves: its level where it is known, and what became of its edges."""
+
+    level: bool | None
+    figures: Figures
+
+    def hear(self) -> None:
+        """Takes what was confirmed."""
+
+    def move(self, level: bool) -> None:
+        """Sends a level."""
+
+
+def drive(line: Moved, plan: str, base: float, told: Connection) -> None:
     """Moves the line until the other end of `told` is closed. A mode of MODES may come by it, or an empty text; each is answered by the
     figures so far.
     """
@@ -142,15 +156,15 @@ def drive(line: Line, plan: str, base: float, told: Connection) -> None:
 class Receiver:
     """The process that moves the line."""
 
-    def __init__(self, path: Path, base: float, plan: str = "dcf") -> None:
+    def __init__(self, line: Moved, base: float, plan: str = "dcf") -> None:
         theirs, self.ours = multiprocessing.Pipe()
-        self.process = multiprocessing.Process(target=self._child, daemon=True, args=(Line(path), plan, base, theirs))
+        self.process = multiprocessing.Process(target=self._child, daemon=True, args=(line, plan, base, theirs))
         self.process.start()
         theirs.close()
 
-    def _child(self, line: Line, plan: str, base: float, told: Connection) -> None:
+    def _child(self, line: Moved, plan: str, base: float, told: Connection) -> None:
         signal.signal(signal.SIGINT, signal.SIG_IGN)
-        os.nice(NICE)
+        os.sched_setscheduler(0, os.SCHED_RR, os.sched_param(PRIORITY))
         self.ours.close()
         drive(line, plan, base, told)
 

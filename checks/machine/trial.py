@@ -1,30 +1,33 @@
 """A machine with the package, its receiver and a client outside: what each case begins with."""
 
 import time
+from collections.abc import Sequence
 from dataclasses import dataclass, field
 from pathlib import Path
 from types import TracebackType
 
 from checks.machine.client import Client, Judged
 from checks.machine.image import image
-from checks.machine.receiver import LATE, Figures, Receiver, log_before
-from checks.machine.vm import Machine, accelerated
+from checks.machine.modem import POLL, Modem
+from checks.machine.receiver import LATE, Figures, Line, Receiver, log_before
+from checks.machine.vm import Fitting, Machine, accelerated
 from lab.held import Wrong
 from lab.kept import base_now
 
-STATION = f'bound = 1000\n[[radio]]\nplan = "dcf"\nlog = "x"\ndelay = {round(LATE * 1e6)}\n[[link]]\nport = 123\n'
+STATION = 'bound = 1000\n[[radio]]\nplan = "dcf"\nlog = "x"\ndelay = {delay}\n[[link]]\nport = 123\n'
 KEEPER = """station = "station.toml"
 state = "/var/lib/radio_ntpd"
 runtime = "/run/radio_ntpd"
 [[radio]]
-command = "/opt/machine/radio.sh {number}"
+command = "/opt/machine/radio.sh {number} {port} {feeders}"
 steady = true
 """
 # Five whole minutes and what is left of the first: with a bound of 1000 the fourth verdict gives the time.
 MINUTES = 380.0
 BEFORE = 800.0  # of pulses that a receiver is given from before its first edge, in seconds
 TIME = 900.0  # a machine that stalls may lose some minutes, in seconds
-PACKAGE = "/root/radio-ntpd.deb"
+FEEDERS = "/usr/lib/radio_ntpd/feeders"
+PACKAGE, SOURCES = "/root/radio-ntpd.deb", "/root/sources.tar"
 
 
 @dataclass
@@ -48,10 +51,15 @@ class Result:
 
 
 class Trial:
-    """One machine for a case. Its files are in `work`, and it ends with the `with`."""
+    """One machine for a case, with fittings, and with these files as disks: the package, and the sources. Its own files are in `work`. It
+    ends with the `with`. With a modem its receiver moves DCD of a serial port.
+    """
 
-    def __init__(self, packages: list[Path], work: Path) -> None:
-        self.packages, self.work, self.result = packages, work, Result()
+    def __init__(self, drives: list[Path], work: Path, fittings: Sequence[Fitting] = ()) -> None:
+        self.drives, self.work, self.fittings, self.result = drives, work, fittings, Result()
+        self.modem = next((one for one in fittings if isinstance(one, Modem)), None)
+        self.feeders = FEEDERS
+        self.servers = ""  # that its station has, as its file says it
         # UTC at the zero of the monotonic clock outside: fixed once, so that no step moves it.
         self.base = base_now()
         self.receiver: Receiver | None = None
@@ -59,10 +67,10 @@ class Trial:
         self.sources = 0  # that the keeper was given
 
     def __enter__(self) -> "Trial":
-        self.machine = Machine(image(self.work), self.work, self.packages)
+        self.machine = Machine(image(self.work), self.work, self.drives, self.fittings)
         try:
             self.say(f"the machine is up after {self.machine.start():.0f} s, by {'KVM' if accelerated() else 'software emulation'}")
-            self.receiver = Receiver(self.work / "line", self.base)
+            self.receiver = Receiver(self.modem or Line(self.work / "line"), self.base)
         except BaseException:
             self.machine.cut()
             raise
@@ -74,8 +82,11 @@ class Trial:
         if self.receiver is not None:
             self.receiver.close()
         self.machine.cut()
+        if self.modem is not None:
+            self.modem.close()
         # The disk is as large as a case lets it grow; what a case needs of it was read before.
-        (self.work / "disk").unlink(missing_ok=True)
+        for name in ("disk", "beneath"):
+            (self.work / name).unlink(missing_ok=True)
 
     def say(self, text: str) -> None:
         """A line about how far it is, with the true time."""
@@ -93,23 +104,29 @@ class Trial:
         self.clients[-1].start()
         return self.clients[-1]
 
-    def package(self, number: int = 0) -> None:
-        """Puts a package into the machine, which has it as a disk, in PACKAGE. Raises Wrong."""
-        size = self.packages[number].stat().st_size
-        self.machine.must(f"head -c {size} /dev/vd{'bcd'[number]} > {PACKAGE}")
+    def bring(self, path: str = PACKAGE) -> None:
+        """Puts one of its two files, the package or the sources, into the machine, which has it as a disk. Raises Wrong."""
+        number = (PACKAGE, SOURCES).index(path)
+        size = self.drives[number].stat().st_size
+        self.machine.must(f"head -c {size} /dev/vd{'bc'[number]} > {path}")
+
+    def port(self) -> str:
+        """What its receiver lies on."""
+        return "serial" if self.modem else "gpio"
 
     def install(self) -> None:
         """The package, with a station of this line, where it isn't there yet. Raises Wrong."""
         if self.sources:
             return
-        self.package()
+        self.bring()
         self.machine.must(f"dpkg --install {PACKAGE}", 400)
-        self.machine.put("/etc/radio_ntpd/station.toml", STATION)
+        late = LATE + (POLL / 2 if self.modem else 0)
+        self.machine.put("/etc/radio_ntpd/station.toml", STATION.format(delay=round(late * 1e6)) + self.servers)
         self.settle()
 
     def settle(self) -> None:
         """Writes the keeper's file, each time with another source: what was received before isn't read back. Raises Wrong."""
-        self.machine.put("/etc/radio_ntpd/keeper.toml", KEEPER.format(number=self.sources))
+        self.machine.put("/etc/radio_ntpd/keeper.toml", KEEPER.format(number=self.sources, port=self.port(), feeders=self.feeders))
         self.sources += 1
 
     def receive(self) -> None:

@@ -7,7 +7,7 @@ import subprocess
 import time
 from collections.abc import Sequence
 from pathlib import Path
-from typing import Any
+from typing import Any, Protocol
 
 from checks.machine.image import Image
 from lab.held import Wrong
@@ -15,7 +15,7 @@ from lab.held import Wrong
 PORTS = ("line", "ntp", "shell")
 BOOT = 600.0  # a machine that takes no command after so long isn't coming up, in seconds
 MEMORY = "1024"
-CPUS = "2"
+EMULATED = "1"  # processors; threads of one real-time priority on one of the host's take turns of 100 ms, which no edge outlives
 KERNEL = "root=/dev/vda rw console=ttyS0 quiet mitigations=off tsc=reliable clocksource=tsc"
 
 
@@ -25,12 +25,22 @@ def accelerated() -> bool:
     return own and os.access("/dev/kvm", os.R_OK | os.W_OK)
 
 
-def words(image: Image, folder: Path, drives: Sequence[Path] = ()) -> list[str]:
-    """QEMU's arguments: one disk, files that the machine reads as /dev/vdb and on, three ports, a console, a monitor. It has the processor
-    before all that has no such priority: an edge that comes late costs a minute.
+class Fitting(Protocol):
+    """What a machine has beside what all have."""
+
+    def words(self) -> list[str]:
+        """QEMU's arguments."""
+
+    def environment(self) -> dict[str, str]:
+        """What QEMU has in its environment."""
+
+
+def words(image: Image, folder: Path, drives: Sequence[Path] = (), fittings: Sequence[Fitting] = ()) -> list[str]:
+    """QEMU's arguments: one disk, files that the machine reads as /dev/vdb and on, three ports, a console, a monitor, fittings. It has the
+    processor before all that has no such priority: an edge that comes late costs a minute.
     """
     found = ["setpriv", "--pdeathsig", "KILL", "chrt", "-r", "1", "qemu-system-x86_64", "-nodefaults", "-no-user-config", "-machine", "pc"]
-    found += ["-m", MEMORY, "-smp", CPUS, "-rtc", "base=utc,clock=host", "-global", "PIIX4_PM.disable_s3=0"]
+    found += ["-m", MEMORY, "-smp", "2" if accelerated() else EMULATED, "-rtc", "base=utc,clock=host", "-global", "PIIX4_PM.disable_s3=0"]
     found += ["-display", "none", "-nic", "none"]
     found += ["-accel", "kvm", "-cpu", "host"] if accelerated() else ["-accel", "tcg,thread=multi,tb-size=512", "-cpu", "max"]
     found += ["-kernel", str(image.kernel), "-initrd", str(image.initrd), "-append", KERNEL]
@@ -41,7 +51,7 @@ def words(image: Image, folder: Path, drives: Sequence[Path] = ()) -> list[str]:
     for port in PORTS:
         found += ["-chardev", f"socket,id={port},path={folder}/{port},server=on,wait=off"]
         found += ["-device", f"virtserialport,chardev={port},name={port}"]
-    return found
+    return found + [word for one in fittings for word in one.words()]
 
 
 def connected(path: Path, within: float) -> socket.socket:
@@ -95,8 +105,9 @@ class Stream:
 class Machine:
     """One machine. `start` boots it, `cut` takes its power away. `booted` is when it was started last (monotonic s)."""
 
-    def __init__(self, image: Image, folder: Path, drives: Sequence[Path] = ()) -> None:
+    def __init__(self, image: Image, folder: Path, drives: Sequence[Path] = (), fittings: Sequence[Fitting] = ()) -> None:
         self.image, self.folder, self.drives, self.number, self.booted = image, folder, drives, 0, 0.0
+        self.fittings = fittings
         self.process: subprocess.Popen[bytes] | None = None
         self.qmp: Stream | None = None
         self.agent: Stream | None = None
@@ -107,7 +118,10 @@ class Machine:
         for name in (*PORTS, "qmp"):
             (self.folder / name).unlink(missing_ok=True)
         with open(self.folder / "qemu", "ab") as said:
-            self.process = subprocess.Popen(words(self.image, self.folder, self.drives), stdout=said, stderr=said, stdin=subprocess.DEVNULL)
+            line, env = words(self.image, self.folder, self.drives, self.fittings), dict(os.environ)
+            for one in self.fittings:
+                env |= one.environment()
+            self.process = subprocess.Popen(line, env=env, stdout=said, stderr=said, stdin=subprocess.DEVNULL)
         self.qmp = Stream(self.folder / "qmp")
         self.qmp.next(time.monotonic() + 20)
         self.agent = Stream(self.folder / "shell")
@@ -137,11 +151,11 @@ class Machine:
         text = path.read_bytes().decode(errors="replace") if path.exists() else ""
         return " / ".join(text.splitlines()[-3:])
 
-    def tell(self, command: str) -> Any:
+    def tell(self, command: str, **arguments: object) -> Any:
         """A command of QEMU's monitor, and what it returns. Raises Wrong."""
         if self.qmp is None:
             raise Wrong("the machine doesn't run")
-        self.qmp.send({"execute": command})
+        self.qmp.send({"execute": command, "arguments": arguments})
         end = time.monotonic() + 20
         while (told := self.qmp.next(end)) is not None:
             if "return" in told:
