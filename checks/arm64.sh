@@ -10,7 +10,7 @@
 #
 # It isn't in the gate. Needs root, qemu-user, qemu-user-static, mmdebstrap and the network of Debian's packages; DEBIAN names a folder that has the files
 # of an arm64 Debian already, with python3 and qemu-user. While it runs the kernel runs arm64 programs by QEMU. It doesn't install the package
-# by dpkg, nor boot that Debian.
+# by dpkg, which checks/evening.sh arm64 does, nor boot that Debian.
 set -u
 cd "$(dirname "$0")/.." || exit 1
 name=arm64
@@ -20,14 +20,13 @@ program=${RADIO_NTPD:-crates/radio_ntpd/out/radio_ntpd}
 work=$(mktemp -d) || exit 1
 bad=0
 keeper=
-formats=/proc/sys/fs/binfmt_misc
-registered=
 finish() {
     [ -z "$keeper" ] || kill "$keeper" 2> "$work/none"
     wait
-    [ -z "$registered" ] || echo -1 > $formats/qemu-aarch64
+    leave_arm64
     rm -rf --one-file-system "$work"
 }
+. checks/emulation.sh
 trap finish EXIT
 trap 'exit 1' INT TERM
 wrong() {
@@ -45,13 +44,7 @@ if command -v lintian > "$work/none"; then
     grep -v '^W: radio-ntpd: copyright-without-copyright-notice' "$work/lintian" && wrong 'lintian has something to say'
 fi
 
-# An ELF header of 64 bits, little-endian, an executable or a shared object, of machine 183. `F` opens QEMU at once, so the Debian need not have it.
-[ -e $formats/register ] || mount -t binfmt_misc none $formats || fails 'the kernel has no binfmt_misc'
-if [ ! -e $formats/qemu-aarch64 ]; then
-    emulator=$(command -v qemu-aarch64-static) || fails 'there is no qemu-aarch64-static: apt install qemu-user-static'
-    printf '%s' ':qemu-aarch64:M::\x7fELF\x02\x01\x01\x00\x00\x00\x00\x00\x00\x00\x00\x00\x02\x00\xb7\x00:\xff\xff\xff\xff\xff\xff\xff\x00\xff\xff\xff\xff\xff\xff\xff\xff\xfe\xff\xff\xff:'"$emulator:F" > $formats/register || fails 'QEMU is not taken'
-    registered=yes
-fi
+take_arm64
 host="$work/host"
 if [ -n "${DEBIAN:-}" ]; then
     cp -a "$DEBIAN" "$host"

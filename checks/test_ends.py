@@ -89,6 +89,9 @@ CASES = [
     ("lab/kept_client.py", "x", 2),
     ("lab/unread.py", "x", 2),
     ("checks/soak.py", "x", 2),
+    ("checks/pages/follow.py", "", 2),
+    ("checks/pages/follow.py", "x", 2),
+    ("checks/pages/follow.py", "packages", 0),
     ("checks/pages/texts.py", "x", 2),
     ("checks/pages/texts.py", "", 0),
 ]

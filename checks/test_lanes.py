@@ -83,8 +83,9 @@ class Checks(unittest.TestCase):
         """What is left out is said on docs/TESTING.md to be outside the gate, or serves other checks."""
         run = {Path(check.split()[0]).name for lane in lanes.LANES for check in lane}
         there = {path.name for path in (lanes.TOP / "checks").glob("*.sh")}
-        outside = {"arm64.sh", "attacks.sh", "evening.sh", "faces.sh", "package.sh", "refuse-allocations.sh", "soak.sh", "units.sh"}
-        self.assertEqual(there - run, outside | {"booted.sh", "serving.sh", "port_123.sh"})
+        outside = {"arm64.sh", "attacks.sh", "evening.sh", "faces.sh", "followed.sh", "package.sh", "refuse-allocations.sh", "same_package.sh", "soak.sh",
+                   "units.sh"}
+        self.assertEqual(there - run, outside | {"booted.sh", "emulation.sh", "serving.sh", "port_123.sh"})
         page = (lanes.TOP / "docs/TESTING.md").read_text()
         for name in outside:
             self.assertIn(name, page)
