@@ -19,8 +19,8 @@ expect() {
     fi
 }
 # No entry, so a page without time.
-page='page 0 0 0 494e4954 0 0 0 0 1048576 0000000000000000 0 0
-'
+page="$(python3 -B -c 'from lab.grammar import page_of_none; print(page_of_none())')
+"
 log() { expect "$1" "$work/log" decode --plan dcf --log "$work/log"; }
 log 'status 0'
 echo '90000000 100000' >> "$work/log"

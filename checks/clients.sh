@@ -71,7 +71,7 @@ if command -v chronyd > /dev/null; then
 fi
 ask drain "$port" || wrong 'the server goes on'
 ended 0 'status 0'
-wrote 'page 0 0 0 494e4954 0 0 0 0 1048576 0000000000000000 0 0'
+wrote "$(python3 -B -c 'from lab.grammar import page_of_none; print(page_of_none())')"
 
 # The others ask one server, which shares a key with some of them.
 port=$(ask port)

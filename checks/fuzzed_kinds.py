@@ -143,11 +143,10 @@ class Station(Kind):
 
     def judge(self, run: Runner, path: str, data: bytes, folder: pathlib.Path, draw: Draw) -> None:
         output, status = run(["replay", "--station", path, "--script", f"{folder}/script"])
-        page = "page 0 0 0 494e4954 0 0 0 0 1048576 0000000000000000 0 0"
 
         def answers(denied: bool) -> list[str]:
             reply = f"reply e40006ec00000000001000{'0044454e59' if denied else '00494e4954'}{0:016x}1122334455667788" + f"{1 << 32:016x}" * 2
-            return [reply, page, "status 0"]
+            return [reply, grammar.page_of_none(), "status 0"]
 
         grammar.judge_station(data, output, status, answers)
 

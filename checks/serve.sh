@@ -9,7 +9,7 @@ cd "$(dirname "$0")/.." || exit 1
 name=serve
 . checks/serving.sh
 checked=0
-page_of_none='page 0 0 0 494e4954 0 0 0 0 1048576 0000000000000000 0 0'
+page_of_none=$(python3 -B -c 'from lab.grammar import page_of_none; print(page_of_none())')
 
 # Serving with these arguments ends within 20 s with the status $1 and the last line $2. `lines` is how many it wrote.
 ends() {

@@ -4,10 +4,13 @@
 """
 
 import hashlib
+import pathlib
 import random
+import re
 import unittest
 
 from checks.model.cases import decode_directed, drawn, journals, scripts
+from lab import grammar
 from lab.model import clients, commands, dates, exchanges, leap_list, notes, page, receiver, replies
 from lab.model import spelling, station, units
 from lab.model.entries import Entry
@@ -15,15 +18,13 @@ from lab.model.marks import Reduction, Symbol
 from lab.model.spelling import Tape
 
 NOON = decode_directed.NOON
-# docs/PAGE.md works out the page of this journal, and of one more minute.
+# docs/PAGE.md works out the page of this journal, and of one more minute: the two page lines that it has.
 FIVE = [Entry(0, 62000000, "lone", (NOON,))] + [
     Entry(0, (62 + 60 * i) * 10**6, "verdict", (NOON + 60 * i, 0)) for i in range(1, 5)
 ]
 SIXTH = Entry(0, 362003000, "verdict", (NOON + 300, 0))
-PAGES = (
-    "page 5 1 1 44434600 17077896086183477248 302000000 4364906902 0 61542 ed00e13000000000 0 0",
-    "page 6 1 1 44434600 17077896086170592347 362003000 37547671946 0 28981 ed00e16c00000000 0 -53687",
-)
+PAGE = pathlib.Path(__file__).resolve().parent.parent / "docs/PAGE.md"
+PAGES = re.findall(r"^ +(page [0-9].*)$", PAGE.read_text(encoding="utf-8"), re.MULTILINE)
 
 # SHA-256 of what two programs of another hand gave of the same draws, before this model was written: a maker of minutes
 # and logs, and a page worked out from the whole list.
@@ -118,11 +119,10 @@ class Frames(unittest.TestCase):
 
 class Pages(unittest.TestCase):
     def test_the_pages_that_are_worked_out(self):
+        self.assertEqual([line.split(" ")[1] for line in PAGES], ["5", "6"])
         self.assertEqual(journal(FIVE).page.line(), PAGES[0])
         self.assertEqual(journal([*FIVE, SIXTH]).page.line(), PAGES[1])
-        self.assertEqual(
-            journal(FIVE, bound=500).page.line(), "page 5 0 0 494e4954 0 302000000 0 0 1048576 0000000000000000 0 0"
-        )
+        self.assertEqual(journal(FIVE, bound=500).page.line(), grammar.page_of_none(5, 302000000))
 
     def test_four_sources_of_which_one_is_discarded(self):
         """Offsets 0, 0, 0 and 40 have selection jitters of 533, 533, 533 and 1600."""

@@ -4,6 +4,7 @@ import struct
 from collections.abc import Sequence
 
 from checks.simulation.world import UNIX
+from lab.grammar import page_of_none
 
 NTP = 2_208_988_800  # from 1900 to 1970 (s)
 
@@ -22,5 +23,5 @@ def journal_of(pid: int, hearings: Sequence[float]) -> bytes:
     lines = [f"j2 1 0 0 {pid} verdict 3976257900 0"]
     lines += [f"link {place} answered {int(count)} dropped 0 again 0 kissed 0 unkept 0 end linkend"
               for place, count in enumerate(hearings)]
-    lines += ["page 1 0 0 494e4954 0 0 0 0 1048576 0000000000000000 0 0", "status 0", ""]
+    lines += [page_of_none(1), "status 0", ""]
     return "\n".join(lines).encode()

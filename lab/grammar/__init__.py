@@ -5,7 +5,7 @@ program. The checks that spoil files judge by it, and the model reads its lines 
 `scripts` scripts and what `replay` writes; `stations` the first fault of a station.
 """
 
-from .forms import LEAP, SERVER, Entry, Wrong, cut, first_bad, need, numbered
+from .forms import LEAP, SERVER, Entry, Wrong, cut, first_bad, need, numbered, page_of_none
 from .journals import judge_migrate
 from .radio_logs import bad_line_of_log, judge_decode
 from .scripts import Script, judge_replay
@@ -29,5 +29,6 @@ __all__ = [
     "judge_station",
     "need",
     "numbered",
+    "page_of_none",
     "station_fault",
 ]

@@ -102,6 +102,11 @@ def numbered(text: str) -> tuple[int, int, str]:
     return length, int(fields[2]), fields[3]
 
 
+def page_of_none(length: int = 0, anchor: int = 0) -> str:
+    """Returns the page line of this many entries at a moment in microseconds, where the server does not know the time."""
+    return f"page {length} 0 0 494e4954 0 {anchor} 0 0 1048576 0000000000000000 0 0"
+
+
 def page(text: str) -> tuple[int, int]:
     """Returns how many entries a page line is of, and whether it has the time; Wrong where the text is none."""
     form = f"page ({NUMBER}) ([01]) ({NUMBER}) ([0-9a-f]{{8}}) ({NUMBER}) ({NUMBER}) ({NUMBER}) ({NUMBER}) ({NUMBER}) ([0-9a-f]{{16}}) ({NUMBER}) ({SIGNED})"
@@ -113,8 +118,7 @@ def page(text: str) -> tuple[int, int]:
     need(int(until) < 2**64 and int(delay) < 2**32 and int(dispersion) < 2**32 and int(leap_at) < 2**64, f"no page: {text!r}")
     need(abs(int(rate)) <= MOST_RATE, f"no page: {text!r}")
     if sync == "0":
-        nothing = (stratum, refid, offset, until, delay, dispersion, reftime, leap_at, rate)
-        need(nothing == ("0", "494e4954", "0", "0", "0", "1048576", "0" * 16, "0", "0"), f"a page without a time that has one: {text!r}")
+        need(text == page_of_none(int(length), int(anchor)), f"a page without a time that has one: {text!r}")
     else:
         need(int(stratum) > 0 and int(until) > 0, f"a page with a time that has none: {text!r}")
     return int(length), int(sync)

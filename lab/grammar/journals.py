@@ -2,7 +2,7 @@
 
 from collections.abc import Callable
 
-from .forms import Entry, Wrong, cut, first_bad, lines_of, need, numbered, page
+from .forms import Entry, Wrong, cut, first_bad, lines_of, need, numbered, page, page_of_none
 
 
 class Journal:
@@ -25,7 +25,7 @@ class Journal:
         """Judges the page line after it, and returns whether that has the time."""
         length, sync = page(line)
         need(length == len(self.entries), f"a page of {length} of {len(self.entries)} entries")
-        need(length > 0 or line == "page 0 0 0 494e4954 0 0 0 0 1048576 0000000000000000 0 0", f"the page of no entry: {line!r}")
+        need(length > 0 or line == page_of_none(), f"the page of no entry: {line!r}")
         return sync
 
 

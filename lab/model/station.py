@@ -57,9 +57,10 @@ def read(text: bytes) -> Station | str:
     fault = grammar.station_fault(table)
     if fault:
         return fault
+    top = grammar.filled(table, grammar.TOP)
     arrays = {name: [grammar.filled(one, rows) for one in table.get(name, [])] for name, rows in grammar.TABLES.items()}
     return Station(
-        **grammar.filled(table, grammar.TOP),
+        **{key: value for key, value in top.items() if key in Station._fields},
         radios=[Radio(**one) for one in arrays["radio"]],
         servers=[int(ipaddress.ip_address(one["address"])) for one in arrays["server"]],
         keys={one["id"]: one["secret"].encode() for one in arrays["key"]},
