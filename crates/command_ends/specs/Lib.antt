@@ -1,6 +1,6 @@
 -- What a reader has to believe, in this order: Endings (statuses and status lines), Writing (what is written, and what a failed
 -- write leaves), Effects (what a command does), Unopened (a command that opens nothing), Opening, Text (the line of a page),
--- StationFile and Reports. Keeping is scaffolding.
+-- StationFile, Reports and Minutes. Keeping is scaffolding.
 pub mod Endings
 pub mod Writing
 pub mod Effects
@@ -9,4 +9,5 @@ pub mod Opening
 pub mod Text
 pub mod StationFile
 pub mod Reports
+pub mod Minutes
 pub mod Keeping

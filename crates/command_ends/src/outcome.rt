@@ -2,6 +2,7 @@
 ghost use Rattle.std.specs.Prelude.{◌≡◌, None, Some};
 
 use crate::ending::status::Status;
+use crate::minutes::Minutes;
 use crate::report::Report;
 use station_values::Station;
 
@@ -12,6 +13,8 @@ pub struct Known {
     pub station: Option<Station>,
     /// The text of a station file that was refused.
     pub station_text: Option<Vec<u8>>,
+    /// What the minutes of a log are to one another that was decoded.
+    pub minutes: Option<Minutes>,
 }
 
 impl Known {
@@ -19,10 +22,12 @@ impl Known {
     pub fn nothing() -> Known
         ensures station { result.station ≡ None }
         ensures text { result.station_text ≡ None }
+        ensures minutes { result.minutes ≡ None }
     {
         Known {
             station: None,
             station_text: None,
+            minutes: None,
         }
     }
 
@@ -30,10 +35,25 @@ impl Known {
     pub fn of_text(text: Vec<u8>) -> Known
         ensures station { result.station ≡ None }
         ensures text { result.station_text ≡ Some text }
+        ensures minutes { result.minutes ≡ None }
     {
         Known {
             station: None,
             station_text: Some(text),
+            minutes: None,
+        }
+    }
+
+    /// What the minutes of a log are to one another.
+    pub fn of_minutes(minutes: Minutes) -> Known
+        ensures station { result.station ≡ None }
+        ensures text { result.station_text ≡ None }
+        ensures minutes { result.minutes ≡ Some minutes }
+    {
+        Known {
+            station: None,
+            station_text: None,
+            minutes: Some(minutes),
         }
     }
 
@@ -41,10 +61,12 @@ impl Known {
     pub fn of_station(station: Station) -> Known
         ensures station { result.station ≡ Some station }
         ensures text { result.station_text ≡ None }
+        ensures minutes { result.minutes ≡ None }
     {
         Known {
             station: Some(station),
             station_text: None,
+            minutes: None,
         }
     }
 }

@@ -11,4 +11,5 @@ mod reading;
 
 pub use cutter::{Cut, LineCutter};
 pub use lines::write_numbered_line;
+pub use log::Decoding;
 pub use reading::{Gives, Taker, ending_at, read_lines};

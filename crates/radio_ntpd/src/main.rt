@@ -21,7 +21,7 @@ use outside_traits::{Outside, Sink};
 use radio_engine::{Outcome, end_without_memory, run_to_outcome};
 use radio_receiver::{DcfReceiver, MsfReceiver, Receiver, WwvbReceiver};
 use service_links::{ServiceOutside, handed_over, write_reason};
-use standard_error::{Watched, write_beginning, write_report};
+use standard_error::{write_beginning, write_report};
 use station_gear::put_in_rack;
 use std::alloc::{AllocError, Global};
 use std::fs::{self, Files};
@@ -35,7 +35,7 @@ use tick_units::Plan;
 
 fn main(rt: HostRuntime) -> ExitCode {
     let _standard = hold_standard_streams(&rt);
-    let mut out = StreamSink::new(Watched::new(io::writer(&rt)));
+    let mut out = StreamSink::new(io::writer(&rt));
     let all = env::args(&rt);
     let are_text = all.is_ok();
     let arguments = arguments_of(rt.alloc(), all);
@@ -45,29 +45,13 @@ fn main(rt: HostRuntime) -> ExitCode {
     if let Some(handed) = handed_over(&rt, process::id(rt.process())) {
         let mut outside = ServiceOutside::new(&rt, &handed);
         let ended = run_program(&rt, rt.alloc(), &arguments, &mut outside, &mut out);
-        let minutes = out.stream().minutes();
-        write_report(
-            &rt,
-            &arguments,
-            are_text,
-            ended.outcome,
-            outside.refusal(),
-            minutes,
-        );
+        write_report(&rt, &arguments, are_text, ended.outcome, outside.refusal());
         write_reason(&rt, &outside);
         return ended.code;
     }
     let mut outside = HostOutside::new(&rt);
     let ended = run_program(&rt, rt.alloc(), &arguments, &mut outside, &mut out);
-    let minutes = out.stream().minutes();
-    write_report(
-        &rt,
-        &arguments,
-        are_text,
-        ended.outcome,
-        outside.refusal(),
-        minutes,
-    );
+    write_report(&rt, &arguments, are_text, ended.outcome, outside.refusal());
     ended.code
 }
 

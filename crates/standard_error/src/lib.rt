@@ -1,8 +1,8 @@
 //! What a person reads on standard error after a command has ended: what is wrong, where that can be named, and the help. No
 //! proof speaks of these texts, and nothing else depends on them.
 //!
-//! To read it in this order: `message` (about a run that has ended), `names` (of feeds and links), `watched` (which minutes a log
-//! gave), `fault`, `arguments`, `commands` (a wrong command line), `fault_line` (a file that is not TOML), `bad_line` (a line that
+//! To read it in this order: `message` (about a run that has ended), `names` (of feeds and links),
+//! `fault`, `arguments`, `commands` (a wrong command line), `fault_line` (a file that is not TOML), `bad_line` (a line that
 //! is not valid), `widths` (a log without a minute), `beginning` (a run that begins), `texts` (all of them). `report` and `note` put a text together
 //! from what came of a run, its arguments and its files, and write it. A closed standard error changes nothing.
 #![tactic(auto)]
@@ -18,7 +18,6 @@ mod names;
 mod note;
 mod report;
 mod texts;
-mod watched;
 mod widths;
 
 pub use arguments::{Argument, read_arguments, value_of};
@@ -30,5 +29,4 @@ pub use names::{file_of, is_leap_file};
 pub use note::write_beginning;
 pub use report::write_report;
 pub use texts::{NO_MEMORY_LINE, NO_MINUTE};
-pub use watched::{Minutes, Watched};
 pub use widths::{SAMPLE_BYTES, no_minute_text};

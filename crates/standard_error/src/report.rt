@@ -1,11 +1,10 @@
 //! What a run says on standard error: what came of it, and what its arguments and its files say, put together and written.
 
 use crate::{
-    Argument, BadLine, Detail, LineSeeker, Message, Minutes, NO_MEMORY_LINE, NO_MINUTE,
-    SAMPLE_BYTES, TomlFault, file_of, is_leap_file, no_minute_text, read_arguments, toml_fault,
-    value_of,
+    Argument, BadLine, Detail, LineSeeker, Message, NO_MEMORY_LINE, NO_MINUTE, SAMPLE_BYTES,
+    TomlFault, file_of, is_leap_file, no_minute_text, read_arguments, toml_fault, value_of,
 };
-use command_ends::{Ending, Outcome, Report, STATION_LIMIT, Subject};
+use command_ends::{Ending, MANY_DIFFER, Minutes, Outcome, Report, STATION_LIMIT, Subject};
 use host_links::Refusal;
 use station_reader::{StationFault, read_station};
 use station_values::Station;
@@ -130,28 +129,31 @@ fn find_bad_line<R: Files + AllocGlobal>(
     })
 }
 
-// What is said of a run that was done, whose minutes are these.
+// What is said of a run that was done, which decoded a log of these minutes.
 fn find_done<R: Files + AllocGlobal>(
     rt: &R,
     arguments: &[Argument<'_>],
     minutes: Minutes,
 ) -> Option<Detail> {
-    match minutes {
-        Minutes::None => Some(Detail::Hint(find_hint(rt, arguments)?)),
-        Minutes::Differ if value_of(arguments, "plan").is_some() => Some(Detail::Disagreement),
-        _ => None,
+    if minutes.agree {
+        None
+    } else if minutes.differing >= MANY_DIFFER {
+        Some(Detail::Disagreement)
+    } else if minutes.lone {
+        None
+    } else {
+        Some(Detail::Hint(find_hint(rt, arguments)?))
     }
 }
 
-// What the files of a run say beside its outcome. `minutes` are those that were written.
+// What the files of a run say beside its outcome.
 fn find_detail<R: Files + AllocGlobal>(
     rt: &R,
     arguments: &[Argument<'_>],
     outcome: &Outcome,
-    minutes: Minutes,
 ) -> Option<Detail> {
     match &outcome.report {
-        Report::Ended(Ending::Whole) => find_done(rt, arguments, minutes),
+        Report::Ended(Ending::Whole) => find_done(rt, arguments, outcome.known.minutes?),
         Report::Ended(Ending::WrongLine(subject, number)) => Some(Detail::Line(find_bad_line(
             rt,
             arguments,
@@ -173,10 +175,9 @@ fn try_report<R: Files + AllocGlobal + Eprint>(
     are_text: bool,
     outcome: Outcome,
     refusal: Option<Refusal>,
-    minutes: Minutes,
 ) -> Result<(), AllocError> {
     let arguments = read_arguments(rt.alloc(), arguments)?;
-    let detail = find_detail(rt, arguments.as_slice(), &outcome, minutes);
+    let detail = find_detail(rt, arguments.as_slice(), &outcome);
     let message = Message {
         arguments: if are_text { Some(arguments) } else { None },
         outcome,
@@ -195,13 +196,12 @@ pub fn write_report<R: Files + AllocGlobal + Eprint>(
     are_text: bool,
     outcome: Outcome,
     refusal: Option<Refusal>,
-    minutes: Minutes,
 ) {
     let arguments = match arguments {
         Ok(arguments) => arguments.as_slice(),
         Err(_) => &[],
     };
-    if try_report(rt, arguments, are_text, outcome, refusal, minutes).is_err() {
+    if try_report(rt, arguments, are_text, outcome, refusal).is_err() {
         let _ = eprint!(rt; "{NO_MEMORY_LINE}");
     }
 }

@@ -1,15 +1,16 @@
 //! The messages on standard error, row by row.
-use crate::shared::{same, same_for};
-use command_ends::{Ending, Known, Outcome, Report, Subject};
+use crate::shared::{entry, same, same_for};
+use command_ends::{Ending, Known, Minutes, Outcome, Report, Subject};
 use host_links::Refusal;
+use journal_entry::What;
 use standard_error::{
-    BadLine, Beginning, Detail, LeapRow, LineSeeker, Message, Minutes, TomlFault, Watched,
-    log_fault, no_minute_text, read_arguments, row_fault, toml_fault,
+    BadLine, Beginning, Detail, LeapRow, LineSeeker, Message, TomlFault, log_fault, no_minute_text,
+    read_arguments, row_fault, toml_fault,
 };
 use station_reader::read_station;
 use std::alloc::Global;
-use std::io::Write;
 use std::process::Abort;
+use tick_units::Kind;
 
 fn text_of(rt: &impl Abort, alloc: Global, text: &str) -> String {
     String::from_str(alloc, text).expect(rt, "no memory")
@@ -778,77 +779,68 @@ radio_ntpd: serves port 123 once all files are open; standard output follows at 
     same(&rt, found.as_str(), text);
 }
 
-// A writer that takes at most `most` bytes a call.
-#[derive(Drop)]
-struct Taking {
-    most: usize,
-}
-
-impl Write for Taking {
-    fn write(&mut self, piece: &[u8]) -> std::io::Result<usize> {
-        Ok(piece.len().min(self.most))
+// What the minutes of entries that say this are to one another.
+fn minutes_of(kinds: &[Kind]) -> Minutes {
+    let mut minutes = Minutes::none();
+    for kind in kinds {
+        minutes = minutes.with(&entry(0, 7, What::Heard(*kind)));
     }
-
-    fn flush(&mut self) -> std::io::Result<()> {
-        Ok(())
-    }
+    minutes
 }
 
-fn watched(most: usize) -> Watched<Taking> {
-    Watched::new(Taking { most })
-}
+const LONE: Kind = Kind::Lone {
+    second: 4_004_773_200,
+};
 
-// All of a piece is written.
-fn is_written(rt: &impl Abort, watched: &mut Watched<Taking>, piece: &[u8]) {
-    same(rt, watched.write(piece).ok(), Some(piece.len()));
-}
+const VERDICT: Kind = Kind::Verdict {
+    second: 4_004_773_260,
+    leap_at: 0,
+};
 
-#[test]
-fn a_write_may_take_a_part(rt: HostRuntime) {
-    let mut watched = watched(3);
-    same(&rt, watched.write(b"0 7 lone 1\n").ok(), Some(3));
-    same(&rt, watched.minutes(), Minutes::None);
-}
+const DIFFERS: Kind = Kind::Differs {
+    before: 4_004_773_320,
+    now: 4_004_773_380,
+    apart: 60_000_000,
+};
 
-// Lines of an output, and which minutes they are.
-const OUTPUTS: [(&str, Minutes); 8] = [
-    ("0 67000606 lone 4004773200\n", Minutes::Some),
-    ("0 127001445 verdict 4004773260 0\n", Minutes::Agree),
-    ("0 187000000 refused 2\n", Minutes::None),
-    (DIFFERS, Minutes::None),
-    (TWO_DIFFER, Minutes::Some),
-    (THREE_DIFFER, Minutes::Differ),
-    ("status 0\n", Minutes::None),
-    ("", Minutes::None),
+const REFUSED: Kind = Kind::Refused { rule: 2 };
+
+// Entries, whether two minutes agree, whether one stands alone, and how many differ, up to three.
+const MINUTES: [(&[Kind], bool, bool, u8); 8] = [
+    (&[], false, false, 0),
+    (&[REFUSED, LONE], false, true, 0),
+    (&[LONE, VERDICT], true, true, 0),
+    (&[VERDICT, REFUSED], true, false, 0),
+    (&[DIFFERS], false, false, 1),
+    (&[LONE, DIFFERS, REFUSED, DIFFERS], false, true, 2),
+    (&[DIFFERS, DIFFERS, DIFFERS], false, false, 3),
+    (
+        &[DIFFERS, DIFFERS, DIFFERS, DIFFERS, VERDICT],
+        true,
+        false,
+        3,
+    ),
 ];
 
-const DIFFERS: &str = "0 247000000 differs 4004773320 4004773380 60000000\n";
-
-const TWO_DIFFER: &str = "0 7 lone 4004773200
-0 247000000 differs 4004773320 4004773380 60000000
-0 307000000 differs 4004773320 4004773380 60000000\n";
-
-const THREE_DIFFER: &str = "0 7 lone 4004773200
-0 247000000 differs 4004773320 4004773380 60000000
-0 307000000 differs 4004773320 4004773380 60000000
-0 367000000 differs 4004773320 4004773380 60000000\n";
-
-// After these bytes between two other lines, this is remembered of them.
-fn is_remembered(rt: &impl Abort, lines: &str, minutes: Minutes) {
-    let mut watched = watched(200);
-    is_written(rt, &mut watched, b"0 7000000 refused 0\n");
-    is_written(rt, &mut watched, lines.as_bytes());
-    is_written(rt, &mut watched, b"status 0\n");
-    same_for(rt, &lines, watched.minutes(), minutes);
-}
-
-fn are_remembered(rt: &impl Abort, outputs: &[(&str, Minutes)]) {
-    for (lines, minutes) in outputs {
-        is_remembered(rt, lines, *minutes);
+fn are_counted(rt: &impl Abort, rows: &[(&[Kind], bool, bool, u8)]) {
+    for (kinds, agree, lone, differing) in rows {
+        let minutes = Minutes {
+            agree: *agree,
+            lone: *lone,
+            differing: *differing,
+        };
+        same(rt, minutes_of(kinds), minutes);
     }
 }
 
+// What is no answer of a radio is no minute.
 #[test]
-fn minutes_that_were_written_are_remembered(rt: HostRuntime) {
-    are_remembered(&rt, &OUTPUTS);
+fn a_notice_is_no_minute(rt: HostRuntime) {
+    let notice = entry(0, 7, What::Notice(0));
+    same(&rt, Minutes::none().with(&notice), Minutes::none());
+}
+
+#[test]
+fn minutes_of_entries_are_counted(rt: HostRuntime) {
+    are_counted(&rt, &MINUTES);
 }
