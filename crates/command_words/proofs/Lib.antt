@@ -9,6 +9,7 @@ mod Names
 mod PartLaws
 mod Parts
 mod Readings
+mod ReadLaws
 mod RowLaws
 mod Steps
 mod Values

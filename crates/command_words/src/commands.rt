@@ -1,5 +1,6 @@
 // What a command line asks for.
 
+use crate::faults::Fault;
 use tick_units::Plan;
 
 /// A command with the values of its options.
@@ -38,9 +39,9 @@ pub enum Command<'a> {
 
 /// Why arguments were refused.
 #[derive(Clone, Copy, Debug, PartialEq, Eq)]
-pub enum WordsFault {
-    /// The arguments ask for no command.
-    Usage,
+pub enum WordsFault<'a> {
+    /// The arguments ask for no command, and this is their first fault.
+    Usage(Option<Fault<'a>>),
     /// Memory ran out.
     Memory,
 }

@@ -1,10 +1,13 @@
 //! The arguments of a command line, read with `clap`.
 #![tactic(auto)]
 
+mod arguments;
 mod commands;
+mod faults;
 mod grammar;
 mod reading;
 mod rows;
 
 pub use commands::{Command, WordsFault};
+pub use faults::{Fault, fault_of};
 pub use reading::read_words;

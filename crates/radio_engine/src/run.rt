@@ -1,6 +1,8 @@
 //! The one call that the program makes.
-ghost use Rattle.std.specs.Prelude.{◌≡◌, ◌⊎◌, false, map};
-ghost use Rattle.command_words.specs.Commands.{Asked, AskFor};
+ghost use Rattle.std.specs.Prelude.{◌≡◌, ◌⊎◌, Err, IfOk, Option, false, map, option_map};
+ghost use Rattle.command_words.specs.Commands.{Asked, AskFor, asked};
+ghost use Rattle.command_words.specs.Faults.{fault_of, wrong};
+ghost use Rattle.command_words.specs.declared.faults.Fault.{Fault};
 ghost use Rattle.outside_traits.specs.Faults.{Rose};
 ghost use Rattle.command_ends.specs.Effects.{effect_of};
 ghost use Rattle.command_ends.specs.Endings.{status_of, status_line};
@@ -35,53 +37,82 @@ pub fn end_without_memory<K: Sink>(out: &mut K) -> Outcome
     }
 }
 
+/// What came of arguments.
+#[derive(Drop)]
+pub struct Answer<'a> {
+    /// The command that they ask for, or what is wrong with them.
+    pub asked: Result<Command<'a>, WordsFault<'a>>,
+    /// What came of the command.
+    pub outcome: Outcome,
+}
+
 /// Runs the command that the arguments spell, as `run_station` does, and answers what came of it.
-pub fn run_to_outcome<R: Threads + Wait + Sync, O: Outside, K: Sink>(
+pub fn run_to_outcome<'a, R: Threads + Wait + Sync, O: Outside, K: Sink>(
     rt: &R,
     alloc: Global,
-    words: &[&str],
+    words: &'a [&'a str],
     rack: Vec<Box<dyn Receiver + Send>>,
     outside: &mut O,
     out: &mut K,
-) -> Outcome
+) -> Answer<'a>
     requires rack { IsRack stands_for rack.items }
     requires gate { O.gate_out outside.old ≡ false }
     ensures gate { O.gate_out outside.new ≡ O.gate_out outside.old }
 
     // Refuses arguments that ask for no command, and opens nothing.
     ensures refused { let effect = effect_of (O.state outside.old) (O.state outside.new) (K.state out.old)
-        (K.state out.new) (status_in result.report) in
+        (K.state out.new) (status_in result.outcome.report) in
         ((asked : Asked) → AskFor (map (λ w. w.now) words.now) asked → ⊥) → Refuses effect ⊎ Lacks effect }
 
     // Runs the command that they ask for: what it opens, reads, writes and gives back, and the cause of its answer.
     ensures runs { let effect = effect_of (O.state outside.old) (O.state outside.new) (K.state out.old)
-        (K.state out.new) (status_in result.report) in
+        (K.state out.new) (status_in result.outcome.report) in
         (asked : Asked) → AskFor (map (λ w. w.now) words.now) asked → Lacks effect ⊎ Runs asked effect }
 
     // Where nothing has a fault, all is done.
     ensures complete { (asked : Asked) → AskFor (map (λ w. w.now) words.now) asked →
         IsFaultless asked (O.state outside.old) (O.state outside.new) →
         (Rose (K.state out.old).faults (K.state out.new).faults → ⊥) →
-        IsComplete asked (status_in result.report) }
+        IsComplete asked (status_in result.outcome.report) }
 
     // The last line that it writes reports what came of it.
-    ensures reports { Reports result.report (K.state out.old) (K.state out.new) }
+    ensures reports { Reports result.outcome.report (K.state out.old) (K.state out.new) }
+
+    // The command that the arguments ask for; or else, where the status says so, their first fault.
+    ensures asked { IfOk result.asked (λ c. AskFor (map (λ w. w.now) words.now) (asked c)) }
+    ensures usage { ((asked : Asked) → AskFor (map (λ w. w.now) words.now) asked → ⊥) →
+        status_in result.outcome.report ≡ Status.Usage →
+        (fault : Option Fault) × (result.asked ≡ Err (WordsFault.Usage fault)) × (option_map wrong fault ≡ fault_of (map (λ w. w.now) words.now)) }
 {
     match read_words(alloc, words) {
-        Ok(Command::Decode { plan, log }) => open_and_decode(plan, log, outside, out),
+        Ok(Command::Decode { plan, log }) => Answer {
+            asked: Ok(Command::Decode { plan, log }),
+            outcome: open_and_decode(plan, log, outside, out),
+        },
         Ok(
             Command::Replay {
                 station,
                 script,
                 limit,
             },
-        ) => run_replay(alloc, station, script, limit, rack, outside, out),
-        Ok(Command::Drill { seed, limit }) => {
-            run_drill(rt, alloc, seed, limit, rack, outside, out)
-        }
-        Ok(Command::Migrate { station, journal }) => {
-            run_migrate(alloc, station, journal, outside, out)
-        }
+        ) => Answer {
+            asked: Ok(
+                Command::Replay {
+                    station,
+                    script,
+                    limit,
+                },
+            ),
+            outcome: run_replay(alloc, station, script, limit, rack, outside, out),
+        },
+        Ok(Command::Drill { seed, limit }) => Answer {
+            asked: Ok(Command::Drill { seed, limit }),
+            outcome: run_drill(rt, alloc, seed, limit, rack, outside, out),
+        },
+        Ok(Command::Migrate { station, journal }) => Answer {
+            asked: Ok(Command::Migrate { station, journal }),
+            outcome: run_migrate(alloc, station, journal, outside, out),
+        },
         Ok(
             Command::Serve {
                 station,
@@ -91,23 +122,39 @@ pub fn run_to_outcome<R: Threads + Wait + Sync, O: Outside, K: Sink>(
             },
         ) => {
             let budget = Budget { during, after };
-            run_serve(
-                rt,
-                alloc,
-                station,
-                Orders { limit, budget },
-                rack,
-                outside,
-                out,
-            )
+            Answer {
+                asked: Ok(
+                    Command::Serve {
+                        station,
+                        during,
+                        after,
+                        limit,
+                    },
+                ),
+                outcome: run_serve(
+                    rt,
+                    alloc,
+                    station,
+                    Orders { limit, budget },
+                    rack,
+                    outside,
+                    out,
+                ),
+            }
         }
-        Err(WordsFault::Usage) => Outcome {
-            report: finish(Ending::WrongWords, out),
-            known: Known::nothing(),
+        Err(WordsFault::Usage(fault)) => Answer {
+            asked: Err(WordsFault::Usage(fault)),
+            outcome: Outcome {
+                report: finish(Ending::WrongWords, out),
+                known: Known::nothing(),
+            },
         },
-        Err(WordsFault::Memory) => Outcome {
-            report: finish(Ending::NoMemory, out),
-            known: Known::nothing(),
+        Err(WordsFault::Memory) => Answer {
+            asked: Err(WordsFault::Memory),
+            outcome: Outcome {
+                report: finish(Ending::NoMemory, out),
+                known: Known::nothing(),
+            },
         },
     }
 }
@@ -151,5 +198,7 @@ pub fn run_station<R: Threads + Wait + Sync, O: Outside, K: Sink>(
         (Rose (K.state out.old).faults (K.state out.new).faults → ⊥) →
         IsComplete asked result }
 {
-    run_to_outcome(rt, alloc, words, rack, outside, out).status()
+    run_to_outcome(rt, alloc, words, rack, outside, out)
+        .outcome
+        .status()
 }

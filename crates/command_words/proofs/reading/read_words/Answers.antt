@@ -13,10 +13,10 @@ use Rattle.command_words.proofs.reading.read_words.Goals.{in-OutOfMemory, in_def
 
 abbrev is_memory : WordsFault → Bool
 is_memory Memory = true
-is_memory Usage = false
+is_memory (Usage fault) = false
 
 pub returns-in-Err-clause-usage : goal.returns-in-Err-clause-usage
-returns-in-Err-clause-usage c usage a asks =
+returns-in-Err-clause-usage c fault usage a asks =
     let app_is : app_of c.in-Ok.grammar ≡ app = c.in-Ok.ensures in
     let words : List (List ℕ) = map (λ w. w.now) c.args.words.now in
     let error = c.in-Err.error in
@@ -49,7 +49,7 @@ returns-in-Some-clause-only c a asks =
     same_Some _ _ (sym (ap (option_map asked) c.in-Some.is) ∙ c.command.ensures.every a for)
 
 pub returns-clause-usage : goal.returns-clause-usage
-returns-clause-usage c usage a asks =
+returns-clause-usage c fault usage a asks =
     let app_is : app_of c.in-Ok.grammar ≡ app = c.in-Ok.ensures in
     let words : List (List ℕ) = map (λ w. w.now) c.args.words.now in
     let rows = c.in-Ok-try_get_matches_from.ensures.matches (ap is_simple app_is) in
