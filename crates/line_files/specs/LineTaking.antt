@@ -1,7 +1,8 @@
 -- Scaffolding: something that takes the lines of a file one by one. It stands for the items that they say, though after a bad
 -- line perhaps for fewer of them. With the cutter of its lines and their count it stands for the bytes, and for the text that it
 -- has given for them.
-use Rattle.std.specs.Prelude.{◌≡◌, ℕ, ◌+◌, Option, None, Some, List, [], ◌∷◌, ◌++◌, length, take, Ok, Err}
+use Rattle.std.specs.Prelude.{◌≡◌, ℕ, ◌+◌, ◌-◌, ◌^◌, ◌<◌, ◌≤◌, Option, None, Some, List, [], ◌∷◌, ◌++◌, length, take, Ok, Err}
+use Rattle.line_files.specs.declared.by_line.ByLine.{ByLine}
 use Rattle.line_files.specs.Cutting.{HasTaken}
 use Rattle.line_files.specs.declared.cutter.LineCutter.{LineCutter}
 use Rattle.line_files.specs.LineFiles.{LineFile, HasItemsOf}
@@ -14,6 +15,17 @@ pub record LineWay (T : Type 0) : Type 1 where
   pub stands : T → List file.Item → Option ℕ → Type 0
   pub room : ℕ
 
+-- what holds of such a way for a file of at most this many lines: no lines give no text, a line may have bytes, and its length has
+-- one limit up to the last line. Where the lines are counted to an end no more are said after that, and any byte is too long. What
+-- was taken stays so where a bad line is met
+pub record IsWay {T : Type 0} (way : LineWay T) (most : ℕ) : Type 0 where
+  pub blank : way.file.text [] ≡ []
+  pub some : (lines : ℕ) → 0 < way.file.too_long lines
+  pub within : (lines : ℕ) → lines < most → way.file.too_long lines ≡ way.room
+  pub after : most < 2 ^ 64 - 1 → way.file.too_long most ≡ 1
+  pub none : most < 2 ^ 64 - 1 → (items : List way.file.Item) (text : List ℕ) (item : way.file.Item) → length items ≡ most → way.file.says items text item → ⊥
+  pub ends : (taker : T) (items : List way.file.Item) (n : ℕ) → way.stands taker items None → way.stands taker items (Some n)
+
 -- something that takes lines, with the cutter of its lines and their count
 pub record LineTaker (T : Type 0) : Type 0 where
   pub taker : T
@@ -22,6 +34,15 @@ pub record LineTaker (T : Type 0) : Type 0 where
 
 abbrev pub line_taker : {T : Type 0} → T → LineCutter → ℕ → LineTaker T
 line_taker taker cutter count = record { taker = taker; cutter = cutter; count = count }
+
+abbrev pub taker_of : {T : Type 0} → ByLine T → LineTaker T
+taker_of lines = line_taker lines.taker lines.cutter lines.count
+
+-- the lines are counted up to this many, and the next one can be taken
+pub record IsCounting {T : Type 0} (is_ready : T → ℕ → Type 0) (most : ℕ) (lines : ByLine T) : Type 0 where
+  pub most_is : lines.most ≡ most
+  pub within : lines.count ≤ most
+  pub ready : is_ready lines.taker lines.count
 
 -- the text of a line, and the content of the line in which a text is given for it
 pub record LineTexts : Type 0 where
@@ -54,3 +75,9 @@ TakesLine way count now items line (Ok (Some size)) = (now.count ≡ count + 1)
 TakesLine way count now items line (Err bad) = (bad.line ≡ count + 1)
     × ((item : way.file.Item) → way.file.says items line.text item → ⊥)
     × way.stands now.taker items (Some bad.line)
+
+-- the same before it is counted: what is given for the text after these items
+abbrev pub TakesText : {T : Type 0} → (way : LineWay T) → T → List way.file.Item → LineTexts → Option ℕ → Type 0
+TakesText way now items line (Some size) = (item : way.file.Item) × way.file.says items line.text item × way.stands now (items ++ item ∷ []) None
+    × (way.file.text (items ++ item ∷ []) ≡ way.file.text items ++ take size line.given)
+TakesText way now items line None = ((item : way.file.Item) → way.file.says items line.text item → ⊥) × way.stands now items (Some (length items + 1))
