@@ -39,9 +39,8 @@ pub fn first_broken(rules: &[Rule]) -> Option<u8>
 pub(crate) fn is_a_second_on(before: Local, moment: Local) -> bool
     ensures { result ≡ is_between (before + 900000) (before + 1100000) moment }
 {
-    let start = before.get();
-    let later = moment.get();
-    start + 900_000 <= later && later <= start + 1_100_000
+    // One comparison: what comes earlier than the window wraps to more than its length.
+    moment.get().wrapping_sub(before.get() + 900_000) <= 200_000
 }
 
 /// Whether there are not 60 marks.

@@ -25,9 +25,8 @@ pub(crate) fn begins_minute(before: &Option<Mark>, mark: &Mark) -> bool
 {
     match before {
         Some(last) => {
-            let start = last.at.get();
-            let at = mark.at.get();
-            start + 1_900_000 <= at && at <= start + 2_100_000
+            // One comparison: what comes earlier than the window wraps to more than its length.
+            mark.at.get().wrapping_sub(last.at.get() + 1_900_000) <= 200_000
         }
         None => false,
     }

@@ -31,12 +31,10 @@ fn is_short(width: u32) -> bool
 pub(crate) fn are_parts(first: &Reduction, second: &Reduction) -> bool
     ensures { result ≡ are_parts first.now second.now }
 {
-    let start = first.at.get();
-    let next = second.at.get();
+    // One comparison: what comes earlier than the window wraps to more than its length.
     is_short(first.width)
         && is_short(second.width)
-        && start + 150_000 <= next
-        && next <= start + 250_000
+        && second.at.get().wrapping_sub(first.at.get() + 150_000) <= 100_000
 }
 
 // Whether a mark begins a minute: the first second of each is long.
