@@ -41,9 +41,9 @@ IsNamed fault.Memory = ⊥
 IsNamed _ = Unit {0}
 
 -- an obstacle that a status line reports
-abbrev pub IsReported : Obstacle → Type 0
-IsReported (Ends ending) = Unit {0}
-IsReported (Faulty fault) = IsNamed fault
+abbrev pub HasStatusLine : Obstacle → Type 0
+HasStatusLine (Ends ending) = Unit {0}
+HasStatusLine (Faulty fault) = IsNamed fault
 
 abbrev pub status_at : Obstacle → Status
 status_at (Ends ending) = status_of ending

@@ -16,7 +16,7 @@ use Rattle.leap_file.proofs.ReaderLaws.{says, says_end, says_more, says_whole}
 use Rattle.leap_file.specs.Lines.{line_says}
 use Rattle.leap_file.specs.Reading.{Finishes, HasRead, Takes, counted}
 use Rattle.tick_units.specs.Log.{lines_of}
-use Rattle.leap_file.specs.Rows.{bad_after, bad_line, leap_seconds, may_stand}
+use Rattle.leap_file.specs.Rows.{bad_after, bad_row, leap_seconds, may_stand}
 use Rattle.leap_file.specs.declared.part.LeapLine.{LeapLine}
 use Rattle.leap_file.specs.declared.part.LeapLine.TheVariants.{Nothing, Numbers, Bad}
 use Rattle.leap_file.specs.declared.reader.BadLeap.{BadLeap}
@@ -91,9 +91,9 @@ module _ (reader new : LeapReader) (start : ℕ) (share : Share) (bytes : List �
 
 -- bytes after a bad line change neither that line nor what is due
 pub passed_stays : (start : ℕ) (share : Share) (prefix more : List ℕ) (line : ℕ) → HasPassed start share prefix line → HasPassed start share (prefix ++ more) line
-passed_stays start share prefix more line h = by (bad_line false prefix) refl h.bad
+passed_stays start share prefix more line h = by (bad_row false prefix) refl h.bad
   where
-    by : (reported : Option ℕ) → bad_line false prefix ≡ reported → option_map counted reported ≡ Some line → HasPassed start share (prefix ++ more) line
+    by : (reported : Option ℕ) → bad_row false prefix ≡ reported → option_map counted reported ≡ Some line → HasPassed start share (prefix ++ more) line
     by None is counts = cc
     by (Some number) is counts =
         let stays = stays_bad prefix more number is in
@@ -126,7 +126,7 @@ says_few bytes (byte ∷ more) =
       | inr other ↦ (let one = ap length (says_more bytes byte other) in omega arith)
     ]
 
-line_small : (whole : Bool) (bytes : List ℕ) (bad : ℕ) → bad_line whole bytes ≡ Some bad → bad ≤ length bytes + 1
+line_small : (whole : Bool) (bytes : List ℕ) (bad : ℕ) → bad_row whole bytes ≡ Some bad → bad ≤ length bytes + 1
 line_small false bytes bad is =
     let few = says_few [] bytes in
     let small = bad_small None 1 (says bytes) bad is in
@@ -137,10 +137,10 @@ line_small true bytes bad is =
     omega (arith, length-append bytes (10 ∷ []))
 
 -- so it is reported as it is
-pub exact : (whole : Bool) (bytes : List ℕ) (line : ℕ) → length bytes ≤ 2 ^ 16 → option_map counted (bad_line whole bytes) ≡ Some line → bad_line whole bytes ≡ Some line
-exact whole bytes line most counts = by (bad_line whole bytes) refl counts
+pub exact : (whole : Bool) (bytes : List ℕ) (line : ℕ) → length bytes ≤ 2 ^ 16 → option_map counted (bad_row whole bytes) ≡ Some line → bad_row whole bytes ≡ Some line
+exact whole bytes line most counts = by (bad_row whole bytes) refl counts
   where
-    by : (reported : Option ℕ) → bad_line whole bytes ≡ reported → option_map counted reported ≡ Some line → bad_line whole bytes ≡ Some line
+    by : (reported : Option ℕ) → bad_row whole bytes ≡ reported → option_map counted reported ≡ Some line → bad_row whole bytes ≡ Some line
     by None is e = cc
     by (Some number) is e =
         let small = line_small whole bytes number is in
@@ -154,9 +154,9 @@ uncounted : (reported : Option ℕ) → option_map counted reported ≡ None →
 uncounted None e = refl
 uncounted (Some number) e = cc
 
-pub list_ends : (log log_now : SourceState) (bytes : List ℕ) (end : LogEnd) → EndsAt end (option_map counted (bad_line true bytes)) → EndsReading file.Whole (2 ^ 16) log log_now bytes → bad_line false bytes ≡ None →
+pub list_ends : (log log_now : SourceState) (bytes : List ℕ) (end : LogEnd) → EndsAt end (option_map counted (bad_row true bytes)) → EndsReading file.Whole (2 ^ 16) log log_now bytes → bad_row false bytes ≡ None →
     EndsLeap (2 ^ 16) log log_now bytes true end
-list_ends log log_now bytes Whole at read good = (refl, read, uncounted (bad_line true bytes) at)
+list_ends log log_now bytes Whole at read good = (refl, read, uncounted (bad_row true bytes) at)
 list_ends log log_now bytes (BadLine line) at read good = inr (refl, read, good, exact true bytes line read.most at)
 list_ends log log_now bytes Fault at read good = absurd at
 list_ends log log_now bytes Long at read good = absurd at

@@ -5,7 +5,7 @@ use Rattle.file_reader.specs.Ends.{HasReadPrefix, EndsReading}
 use Rattle.file_reader.specs.declared.reader.FileEnd.TheVariants as file
 use Rattle.journal_entry.specs.declared.entry.Entry.{Entry}
 use Rattle.journal_entry.specs.declared.entry.What.TheVariants.{Notice}
-use Rattle.leap_file.specs.Rows.{bad_line, leap_seconds}
+use Rattle.leap_file.specs.Rows.{bad_row, leap_seconds}
 use Rattle.page_cell.specs.Passes.{claim_of}
 use Rattle.feed_workers.specs.Keeping.{Keeps, share_of}
 use Rattle.feed_workers.specs.Logs.{Intake, intake_of}
@@ -30,12 +30,12 @@ due_leap feed start whole bytes = notices_of feed start (leap_seconds whole byte
 -- first bad line, which stands among the bytes or is the last one, without its line feed, at the file's end. Fault: a read failed. Long:
 -- there is another byte after as many as a file may have. In the last two no line was bad so far
 abbrev pub EndsLeap : ℕ → SourceState → SourceState → List ℕ → (whole : Bool) → LogEnd → Type 0
-EndsLeap most log log_now bytes whole Whole = (whole ≡ true) × EndsReading file.Whole most log log_now bytes × (bad_line true bytes ≡ None)
+EndsLeap most log log_now bytes whole Whole = (whole ≡ true) × EndsReading file.Whole most log log_now bytes × (bad_row true bytes ≡ None)
 EndsLeap most log log_now bytes whole (BadLine line) =
-    ((whole ≡ false) × HasReadPrefix most log log_now bytes × (bad_line false bytes ≡ Some line))
-    ⊎ ((whole ≡ true) × EndsReading file.Whole most log log_now bytes × (bad_line false bytes ≡ None) × (bad_line true bytes ≡ Some line))
-EndsLeap most log log_now bytes whole Fault = (whole ≡ false) × EndsReading file.Fault most log log_now bytes × (bad_line false bytes ≡ None)
-EndsLeap most log log_now bytes whole Long = (whole ≡ false) × EndsReading file.TooLong most log log_now bytes × (bad_line false bytes ≡ None)
+    ((whole ≡ false) × HasReadPrefix most log log_now bytes × (bad_row false bytes ≡ Some line))
+    ⊎ ((whole ≡ true) × EndsReading file.Whole most log log_now bytes × (bad_row false bytes ≡ None) × (bad_row true bytes ≡ Some line))
+EndsLeap most log log_now bytes whole Fault = (whole ≡ false) × EndsReading file.Fault most log log_now bytes × (bad_row false bytes ≡ None)
+EndsLeap most log log_now bytes whole Long = (whole ≡ false) × EndsReading file.TooLong most log log_now bytes × (bad_row false bytes ≡ None)
 
 -- the file of a leap second file's worker, from before its run to after it
 abbrev pub leap_intake : {L : Type 0} → (L → SourceState) → (limit : ℕ) → LeapWorker L → LeapWorker L → LogWork → Intake

@@ -7,22 +7,22 @@ use Rattle.std.proofs.lemmas.List.{append-nil, map-append}
 use Rattle.tick_units.specs.Log.{lines_of}
 use Rattle.leap_file.specs.declared.row.Row.{Row}
 use Rattle.leap_file.specs.Lines.{line_says}
-use Rattle.leap_file.specs.Rows.{bad_after, bad_line, leap_seconds, rows, rows_after}
+use Rattle.leap_file.specs.Rows.{bad_after, bad_row, leap_seconds, rows, rows_after}
 use Rattle.leap_file.proofs.RowLaws.{goes_on}
 use Rattle.leap_file.proofs.ReaderLaws.{says, seconds_of, says_more, says_end, says_whole, kept}
 
 -- the bad line of a file stays whatever comes after it, and nothing more is due
 pub record StaysBad (bytes more : List ℕ) (line : ℕ) : Type 0 where
-  pub bad : bad_line false (bytes ++ more) ≡ Some line
+  pub bad : bad_row false (bytes ++ more) ≡ Some line
   pub seconds : leap_seconds false (bytes ++ more) ≡ leap_seconds false bytes
 
-pub stays_bad : (bytes more : List ℕ) (line : ℕ) → bad_line false bytes ≡ Some line → StaysBad bytes more line
-stays_bad bytes [] line h = record { bad = ap (bad_line false) (append-nil bytes) ∙ h; seconds = ap (leap_seconds false) (append-nil bytes) }
+pub stays_bad : (bytes more : List ℕ) (line : ℕ) → bad_row false bytes ≡ Some line → StaysBad bytes more line
+stays_bad bytes [] line h = record { bad = ap (bad_row false) (append-nil bytes) ∙ h; seconds = ap (leap_seconds false) (append-nil bytes) }
 stays_bad bytes (byte ∷ more) line h =
     let one = kept bytes byte line h in
     let rest = stays_bad (bytes ++ byte ∷ []) more line one.bad in
     let regroup : (bytes ++ byte ∷ []) ++ more ≡ bytes ++ byte ∷ more = append_assoc bytes (byte ∷ []) more in
-    record { bad = ap (bad_line false) (sym regroup) ∙ rest.bad; seconds = ap (leap_seconds false) (sym regroup) ∙ rest.seconds ∙ one.seconds }
+    record { bad = ap (bad_row false) (sym regroup) ∙ rest.bad; seconds = ap (leap_seconds false) (sym regroup) ∙ rest.seconds ∙ one.seconds }
 
 -- seconds of a longer list of rows
 seconds_longer : (some more : List Row) → (rest : List ℕ) × (seconds_of (some ++ more) ≡ seconds_of some ++ rest)
@@ -33,7 +33,7 @@ seconds_longer (first ∷ some) more = (map (λ r. r.second) more, map-append (�
 abbrev pub Grows : List ℕ → List ℕ → Type 0
 Grows longer shorter = (rest : List ℕ) × (longer ≡ shorter ++ rest)
 
-grows_end : (bytes : List ℕ) (bad : Option ℕ) → bad_line false bytes ≡ bad → Grows (leap_seconds false (bytes ++ 10 ∷ [])) (leap_seconds false bytes)
+grows_end : (bytes : List ℕ) (bad : Option ℕ) → bad_row false bytes ≡ bad → Grows (leap_seconds false (bytes ++ 10 ∷ [])) (leap_seconds false bytes)
 grows_end bytes (Some line) h = ([], (kept bytes 10 line h).seconds ∙ sym (append-nil (leap_seconds false bytes)))
 grows_end bytes None h =
     let on = goes_on None 1 (says bytes) (line_says (lines_of bytes).unfinished) h in
@@ -43,7 +43,7 @@ grows_end bytes None h =
 grows_one : (bytes : List ℕ) (byte : ℕ) → Grows (leap_seconds false (bytes ++ byte ∷ [])) (leap_seconds false bytes)
 grows_one bytes byte = elim (cases_Bool (eqb byte 10)) [
   | inl feed ↦
-      let end = grows_end bytes (bad_line false bytes) refl in
+      let end = grows_end bytes (bad_row false bytes) refl in
       (end.0, ap (λ (b : ℕ). leap_seconds false (bytes ++ b ∷ [])) (eqb-true byte 10 feed) ∙ end.1)
   | inr other ↦ ([], ap (λ l. seconds_of (rows_after None l)) (says_more bytes byte other) ∙ sym (append-nil (leap_seconds false bytes)))
 ]
@@ -60,5 +60,5 @@ grows bytes (byte ∷ more) =
 pub whole_is : (bytes : List ℕ) → leap_seconds true bytes ≡ leap_seconds false (bytes ++ 10 ∷ [])
 whole_is bytes = ap (λ l. seconds_of (rows_after None l)) (says_whole bytes)
 
-pub bad_whole_is : (bytes : List ℕ) → bad_line true bytes ≡ bad_line false (bytes ++ 10 ∷ [])
+pub bad_whole_is : (bytes : List ℕ) → bad_row true bytes ≡ bad_row false (bytes ++ 10 ∷ [])
 bad_whole_is bytes = ap (bad_after None 1) (says_whole bytes)

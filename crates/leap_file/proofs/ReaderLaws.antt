@@ -12,7 +12,7 @@ use Rattle.leap_file.specs.declared.reader.BadLeap.{BadLeap}
 use Rattle.leap_file.specs.declared.reader.LeapReader.{LeapReader}
 use Rattle.leap_file.specs.declared.row.Row.{Row}
 use Rattle.leap_file.specs.Lines.{line_says}
-use Rattle.leap_file.specs.Rows.{bad_after, bad_line, leap_seconds, lines_read, may_stand, rows, rows_after}
+use Rattle.leap_file.specs.Rows.{bad_after, bad_row, leap_seconds, lines_read, may_stand, rows, rows_after}
 use Rattle.leap_file.specs.Reading.{IsLine, HasRead, Takes, Finishes, AddsRow, counted}
 use Rattle.leap_file.proofs.RowLaws.{bad_stays, goes_on, last_push, second_push}
 
@@ -46,15 +46,15 @@ some_from : (o : Option ℕ) (line : ℕ) → Some line ≡ option_map counted o
 some_from None line h = cc
 some_from (Some n) line h = record { number = n; is = refl; counts = cc }
 
-fine : (reader : LeapReader) (bytes : List ℕ) → HasRead reader bytes → reader.bad ≡ None → bad_line false bytes ≡ None
-fine reader bytes h none = none_from (bad_line false bytes) (rw none at h.bad)
+fine : (reader : LeapReader) (bytes : List ℕ) → HasRead reader bytes → reader.bad ≡ None → bad_row false bytes ≡ None
+fine reader bytes h none = none_from (bad_row false bytes) (rw none at h.bad)
 
 -- a bad line stays, with any byte more
 pub record Kept (bytes : List ℕ) (byte number : ℕ) : Type 0 where
-  pub bad : bad_line false (bytes ++ byte ∷ []) ≡ Some number
+  pub bad : bad_row false (bytes ++ byte ∷ []) ≡ Some number
   pub seconds : leap_seconds false (bytes ++ byte ∷ []) ≡ leap_seconds false bytes
 
-pub kept : (bytes : List ℕ) (byte number : ℕ) → bad_line false bytes ≡ Some number → Kept bytes byte number
+pub kept : (bytes : List ℕ) (byte number : ℕ) → bad_row false bytes ≡ Some number → Kept bytes byte number
 kept bytes byte number h = elim (cases_Bool (eqb byte 10)) [
   | inl feed ↦
       let stays = bad_stays None 1 (says bytes) (line_says (lines_of bytes).unfinished) number h in
@@ -64,7 +64,7 @@ kept bytes byte number h = elim (cases_Bool (eqb byte 10)) [
 ]
 
 -- a reader of a file with a bad line
-stopped_reader : (reader : LeapReader) (bytes : List ℕ) (bad : BadLeap) → reader.bad ≡ Some bad → option_map counted (bad_line false bytes) ≡ Some bad.line → HasRead reader bytes
+stopped_reader : (reader : LeapReader) (bytes : List ℕ) (bad : BadLeap) → reader.bad ≡ Some bad → option_map counted (bad_row false bytes) ≡ Some bad.line → HasRead reader bytes
 stopped_reader reader bytes bad is number = record {
   bad = ap (option_map (λ b. b.line)) is ∙ sym number;
   line = λ none. absurd (let never : Some bad ≡ None = sym is ∙ none in cc);
@@ -74,9 +74,9 @@ stopped_reader reader bytes bad is number = record {
 
 pub stays_bad : (reader : LeapReader) (bytes : List ℕ) (byte : ℕ) (bad : BadLeap) → HasRead reader bytes → reader.bad ≡ Some bad → Takes reader bytes byte (Err bad)
 stays_bad reader bytes byte bad h is =
-    let was = some_from (bad_line false bytes) bad.line (rw is at h.bad) in
+    let was = some_from (bad_row false bytes) bad.line (rw is at h.bad) in
     let on = kept bytes byte was.number was.is in
-    let now : option_map counted (bad_line false (bytes ++ byte ∷ [])) ≡ Some bad.line = ap (option_map counted) on.bad ∙ ap (λ (n : ℕ). Some n) was.counts in
+    let now : option_map counted (bad_row false (bytes ++ byte ∷ [])) ≡ Some bad.line = ap (option_map counted) on.bad ∙ ap (λ (n : ℕ). Some n) was.counts in
     record { read = stopped_reader reader (bytes ++ byte ∷ []) bad is now; found = (now, on.seconds) }
 
 -- a line that goes on
@@ -85,7 +85,7 @@ pub line_on : (old new : LeapReader) (bytes : List ℕ) (byte : ℕ) → HasRead
 line_on old new bytes byte h none other line lines before still =
     let same = says_more bytes byte other in
     let longer = lines_more bytes byte other in
-    let next : bad_line false (bytes ++ byte ∷ []) ≡ None = ap (bad_after None 1) same ∙ fine old bytes h none in
+    let next : bad_row false (bytes ++ byte ∷ []) ≡ None = ap (bad_after None 1) same ∙ fine old bytes h none in
     record {
       read = record {
         bad = ap (option_map (λ b. b.line)) still ∙ sym (ap (option_map counted) next);
@@ -101,15 +101,15 @@ abbrev last_row : List ℕ → Option Row
 last_row bytes = last_or None (rows false bytes)
 
 record Ended (bytes : List ℕ) (line : LeapLine) : Type 0 where
-  bad : bad_line false (bytes ++ 10 ∷ []) ≡ bad_after (last_row bytes) (1 + length (lines_of bytes).complete) (line ∷ [])
+  bad : bad_row false (bytes ++ 10 ∷ []) ≡ bad_after (last_row bytes) (1 + length (lines_of bytes).complete) (line ∷ [])
   rows_now : rows false (bytes ++ 10 ∷ []) ≡ rows false bytes ++ rows_after (last_row bytes) (line ∷ [])
 
-ended : (bytes : List ℕ) (line : LeapLine) → bad_line false bytes ≡ None → line ≡ line_says (lines_of bytes).unfinished → Ended bytes line
+ended : (bytes : List ℕ) (line : LeapLine) → bad_row false bytes ≡ None → line ≡ line_says (lines_of bytes).unfinished → Ended bytes line
 ended bytes line good is =
     let on = goes_on None 1 (says bytes) (line_says (lines_of bytes).unfinished) good in
     let count : length (says bytes) ≡ length (lines_of bytes).complete = length-map (lines_of bytes).complete line_says in
     record {
-      bad = subst (λ l. bad_line false (bytes ++ 10 ∷ []) ≡ bad_after (last_row bytes) (1 + length (lines_of bytes).complete) (l ∷ [])) (sym is) (ap (bad_after None 1) (says_end bytes) ∙ on.bad ∙ ap (λ (n : ℕ). bad_after (last_row bytes) (1 + n) (line_says (lines_of bytes).unfinished ∷ [])) count);
+      bad = subst (λ l. bad_row false (bytes ++ 10 ∷ []) ≡ bad_after (last_row bytes) (1 + length (lines_of bytes).complete) (l ∷ [])) (sym is) (ap (bad_after None 1) (says_end bytes) ∙ on.bad ∙ ap (λ (n : ℕ). bad_after (last_row bytes) (1 + n) (line_says (lines_of bytes).unfinished ∷ [])) count);
       rows_now = subst (λ l. rows false (bytes ++ 10 ∷ []) ≡ rows false bytes ++ rows_after (last_row bytes) (l ∷ [])) (sym is) (ap (rows_after None) (says_end bytes) ∙ on.rows);
     }
 
@@ -146,7 +146,7 @@ ends_badly old new bytes line bad h none is is_bad no_row was number =
     let e = ended bytes line (fine old bytes h none) is in
     let sum : 1 + length (lines_of bytes).complete ≡ length (lines_of bytes).complete + 1 = omega arith in
     let line_number : counted (1 + length (lines_of bytes).complete) ≡ bad.line = ap counted sum ∙ sym (number ∙ counted_more old.lines (length (lines_of bytes).complete) (h.lines none)) in
-    let now : option_map counted (bad_line false (bytes ++ 10 ∷ [])) ≡ Some bad.line = ap (option_map counted) (e.bad ∙ is_bad) ∙ ap (λ (n : ℕ). Some n) line_number in
+    let now : option_map counted (bad_row false (bytes ++ 10 ∷ [])) ≡ Some bad.line = ap (option_map counted) (e.bad ∙ is_bad) ∙ ap (λ (n : ℕ). Some n) line_number in
     let same : rows false (bytes ++ 10 ∷ []) ≡ rows false bytes = e.rows_now ∙ ap (λ l. rows false bytes ++ l) no_row ∙ append-nil _ in
     record { read = stopped_reader new (bytes ++ 10 ∷ []) bad was now; found = (now, ap seconds_of same) }
 
@@ -159,7 +159,7 @@ ends_row old new bytes row found h none is valid reported line lines before stil
     let last = h.before none in
     let may : may_stand (last_row bytes) row ≡ true = subst (λ o. may_stand o row ≡ true) last valid in
     let more : rows false (bytes ++ 10 ∷ []) ≡ rows false bytes ++ row ∷ [] = e.rows_now ∙ rw may refl in
-    let next : bad_line false (bytes ++ 10 ∷ []) ≡ None = e.bad ∙ rw may refl in
+    let next : bad_row false (bytes ++ 10 ∷ []) ≡ None = e.bad ∙ rw may refl in
     record {
       read = record {
         bad = ap (option_map (λ b. b.line)) still ∙ sym (ap (option_map counted) next);

@@ -6,7 +6,7 @@ use Rattle.std.specs.Option.{option_map, option_to_list}
 use Rattle.std.specs.Str.Lines.{strip_carriage_return}
 use Rattle.tick_units.specs.Log.{lines_of}
 use Rattle.leap_file.specs.Parts.{part_of}
-use Rattle.leap_file.specs.Rows.{bad_line, leap_seconds, may_stand, rows}
+use Rattle.leap_file.specs.Rows.{bad_row, leap_seconds, may_stand, rows}
 use Rattle.leap_file.specs.declared.line.Line.{Line}
 use Rattle.leap_file.specs.declared.part.Part.{Part}
 use Rattle.leap_file.specs.declared.reader.BadLeap.{BadLeap}
@@ -28,7 +28,7 @@ counted number = min number (2 ^ 64 - 1)
 
 -- the reader has taken these bytes: it keeps their bad line, and what it needs of them while they have none
 pub record HasRead (reader : LeapReader) (bytes : List ℕ) : Type 0 where
-  pub bad : option_map (λ bad. bad.line) reader.bad ≡ option_map counted (bad_line false bytes)
+  pub bad : option_map (λ bad. bad.line) reader.bad ≡ option_map counted (bad_row false bytes)
   pub line : reader.bad ≡ None → IsLine reader.line (lines_of bytes).unfinished
   pub lines : reader.bad ≡ None → reader.lines ≡ counted (length (lines_of bytes).complete)
   pub before : reader.bad ≡ None → reader.before ≡ last_or None (rows false bytes)
@@ -37,15 +37,15 @@ pub record HasRead (reader : LeapReader) (bytes : List ℕ) : Type 0 where
 pub record Takes (new : LeapReader) (bytes : List ℕ) (byte : ℕ) (result : Result (Option ℕ) BadLeap) : Type 0 where
   pub read : HasRead new (bytes ++ byte ∷ [])
   pub found : MatchResult result
-      (λ found. (bad_line false (bytes ++ byte ∷ []) ≡ None) × (leap_seconds false (bytes ++ byte ∷ []) ≡ leap_seconds false bytes ++ option_to_list found))
-      (λ bad. (option_map counted (bad_line false (bytes ++ byte ∷ [])) ≡ Some bad.line) × (leap_seconds false (bytes ++ byte ∷ []) ≡ leap_seconds false bytes))
+      (λ found. (bad_row false (bytes ++ byte ∷ []) ≡ None) × (leap_seconds false (bytes ++ byte ∷ []) ≡ leap_seconds false bytes ++ option_to_list found))
+      (λ bad. (option_map counted (bad_row false (bytes ++ byte ∷ [])) ≡ Some bad.line) × (leap_seconds false (bytes ++ byte ∷ []) ≡ leap_seconds false bytes))
 
 -- the same at the end of the file, where a last line without a line feed counts
 pub record Finishes (new : LeapReader) (bytes : List ℕ) (result : Result (Option ℕ) BadLeap) : Type 0 where
   pub read : HasRead new (bytes ++ 10 ∷ [])
   pub found : MatchResult result
-      (λ found. (bad_line true bytes ≡ None) × (leap_seconds true bytes ≡ leap_seconds false bytes ++ option_to_list found))
-      (λ bad. (option_map counted (bad_line true bytes) ≡ Some bad.line) × (leap_seconds true bytes ≡ leap_seconds false bytes))
+      (λ found. (bad_row true bytes ≡ None) × (leap_seconds true bytes ≡ leap_seconds false bytes ++ option_to_list found))
+      (λ bad. (option_map counted (bad_row true bytes) ≡ Some bad.line) × (leap_seconds true bytes ≡ leap_seconds false bytes))
 
 -- the reader with a bad line
 abbrev pub stopped : LeapReader → BadLeap → LeapReader

@@ -45,8 +45,8 @@ abbrev pub rows : Bool → List ℕ → List Row
 rows whole bytes = rows_after None (map line_says (lines_read whole bytes))
 
 -- the number, from 1, of the first bad line
-abbrev pub bad_line : Bool → List ℕ → Option ℕ
-bad_line whole bytes = bad_after None 1 (map line_says (lines_read whole bytes))
+abbrev pub bad_row : Bool → List ℕ → Option ℕ
+bad_row whole bytes = bad_after None 1 (map line_says (lines_read whole bytes))
 
 -- the seconds at which leap seconds end: those of the rows except the first
 abbrev pub leap_seconds : Bool → List ℕ → List ℕ

@@ -14,7 +14,7 @@ use Rattle.outside_traits.specs.States.{LinkState, NetEvent, SinkState, SourceSt
 use Rattle.feed_workers.specs.Leaps.{EndsLeap, due_leap, most_of_a_list}
 use Rattle.feed_workers.specs.Logs.{EndsLog}
 use Rattle.radio_receiver.specs.Decoding.{most_of_a_log}
-use Rattle.leap_file.specs.Rows.{bad_line}
+use Rattle.leap_file.specs.Rows.{bad_row}
 use Rattle.leap_file.proofs.GrowthLaws.{bad_whole_is, stays_bad}
 use Rattle.feed_workers.specs.Polling.{EndsPolls}
 use Rattle.file_reader.specs.declared.log_end.LogEnd.{LogEnd}
@@ -182,12 +182,12 @@ good_file opened back good bytes whole log.Whole h =
 good_file opened back good bytes whole (log.BadLine line) (inl h) =
     let prefix = prefix_of opened.left back.left good.text bytes good.reported good.reports h.1.taken in
     let longer : good.text ++ 10 ∷ [] ≡ bytes ++ (prefix.0 ++ 10 ∷ []) = ap (λ l. l ++ 10 ∷ []) prefix.2 ∙ append_assoc bytes prefix.0 (10 ∷ []) in
-    let bad : bad_line true good.text ≡ Some line = bad_whole_is good.text ∙ ap (bad_line false) longer ∙ (stays_bad bytes (prefix.0 ++ 10 ∷ []) line h.2).bad in
+    let bad : bad_row true good.text ≡ Some line = bad_whole_is good.text ∙ ap (bad_row false) longer ∙ (stays_bad bytes (prefix.0 ++ 10 ∷ []) line h.2).bad in
     absurd (let wrong : ◌≡◌ {A = Option ℕ} None (Some line) = sym good.lines ∙ bad in cc)
 good_file opened back good bytes whole (log.BadLine line) (inr h) =
     let prefix = prefix_of opened.left back.left good.text (bytes ++ h.1.extra) good.reported good.reports h.1.taken in
     let same = whole_text bytes h.1.extra prefix.0 good.text prefix.2 h.1.cause.0 (none_left back.left prefix.0 prefix.1 h.1.cause.1) in
-    absurd (let wrong : ◌≡◌ {A = Option ℕ} None (Some line) = sym good.lines ∙ ap (bad_line true) same ∙ h.3 in cc)
+    absurd (let wrong : ◌≡◌ {A = Option ℕ} None (Some line) = sym good.lines ∙ ap (bad_row true) same ∙ h.3 in cc)
 good_file opened back good bytes whole log.Fault h = absurd (good.no_fault (rose_by_one opened.faults back.faults h.1.cause.1))
 good_file opened back good bytes whole log.Long h =
     let prefix = prefix_of opened.left back.left good.text (bytes ++ h.1.extra) good.reported good.reports h.1.taken in

@@ -9,7 +9,7 @@ use Rattle.outside_traits.specs.Openings.State.{OfLog, OfLink}
 use Rattle.outside_traits.specs.Openings.Wanted.{LogOf}
 use Rattle.station_values.specs.Station.{StationFields, feed_count, leap_feed, leap_feeds}
 use Rattle.feed_workers.specs.Leaps.{most_of_a_list}
-use Rattle.leap_file.specs.Rows.{bad_line}
+use Rattle.leap_file.specs.Rows.{bad_row}
 use Rattle.station_gear.specs.Gears.{wanted_by}
 use Rattle.line_files.specs.GoodLogs.{IsGoodLog}
 use Rattle.feed_workers.specs.declared.crew.Orders.{Orders}
@@ -94,7 +94,7 @@ pub record IsGoodList (opened back : SourceState) : Type 0 where
   pub reported : opened.left ≡ Some text
   pub reports : IsSome back.left
   pub no_fault : Rose opened.faults back.faults → ⊥
-  pub lines : bad_line true text ≡ None
+  pub lines : bad_row true text ≡ None
   pub most : length text ≤ most_of_a_list
 
 -- one without a fault, of which these are the bytes, and whose end is read

@@ -1,13 +1,11 @@
 -- Lists of steps, as a loop takes them one by one.
-use Rattle.std.proofs.Common.{◌≡◌, ℕ, zero, suc, ◌+◌, ◌<◌, ◌≤◌, ◌^◌, List, [], ◌∷◌, ◌++◌, drop, take, length, get_or, refl, sym, ap, ◌∙◌, subst, arith, append_assoc, length-append}
-use Rattle.std.specs.Prelude.{None, slice_index}
+use Rattle.std.proofs.Common.{◌≡◌, ℕ, suc, ◌+◌, ◌<◌, ◌≤◌, List, [], ◌∷◌, ◌++◌, drop, take, length, get_or, refl, sym, ap, ◌∙◌, subst, arith, append_assoc}
+use Rattle.std.specs.Prelude.{None}
 use Rattle.std.proofs.Math.Seq.{drop-cons}
 use Rattle.std.proofs.lemmas.List.{take-append-drop, take_all, take_more}
-use Rattle.std.proofs.lemmas.List.Elements.{All-head, All-tail}
 use Rattle.station_world.specs.Machine.{IsChained, MayCome, Rises, Station, after, reason, refusal_of}
-use Rattle.station_world.specs.Runs.{AreTaken, IsValidStep, MayRun, StopsAt, after_all}
+use Rattle.station_world.specs.Runs.{AreTaken, MayRun, StopsAt, after_all}
 use Rattle.station_world.specs.declared.step.Step.{Step}
-use Rattle.station_world.specs.declared.step.Step.TheVariants.{Enter, Publish, Read, Tell}
 use Rattle.station_world.specs.declared.step.StepRefusal.{StepRefusal}
 use Rattle.station_world.proofs.StepLaws.{rises_self}
 
@@ -34,10 +32,10 @@ pub record RunsOn (s : Station) (steps : List Step) (i : ℕ) (t : Station) : Ty
   pub state : t ≡ after_all s (take i steps)
   pub taken : AreTaken s (take i steps)
   pub rises : Rises s t
-  pub may : MayRun (length t.journal) (drop i steps)
+  pub may : MayRun t (drop i steps)
   pub chained : IsChained t
 
-pub runs-none : (s : Station) (steps : List Step) → IsChained s → MayRun (length s.journal) steps → RunsOn s steps 0 s
+pub runs-none : (s : Station) (steps : List Step) → IsChained s → MayRun s steps → RunsOn s steps 0 s
 runs-none s steps chained may = record { state = refl; taken = tt; rises = rises_self s; may = may; chained = chained }
 
 drop-here : (steps : List Step) (i : ℕ) (x : Step) → i < length steps → x ≡ get_or steps i x → drop i steps ≡ x ∷ drop (i + 1) steps
@@ -46,21 +44,9 @@ drop-here steps i x lt here = drop-cons steps i x lt ∙ (λ k. sym here k ∷ d
     next : suc i ≡ i + 1
     next = omega arith
 
-may-come : (n : ℕ) (x : Step) (rest : List Step) → MayRun n (x ∷ rest) → MayCome n x
-may-come n (Enter e) rest h = (All-head IsValidStep (Enter e) rest h.valid, let room = h.room in omega arith)
-may-come n Publish rest h = tt
-may-come n (Read k) rest h = tt
-may-come n (Tell k m) rest h = tt
-
-may-go_on : (s : Station) (x : Step) (rest : List Step) → MayRun (length s.journal) (x ∷ rest) → MayRun (length (after s x).journal) rest
-may-go_on s (Enter e) rest h = record { valid = All-tail IsValidStep (Enter e) rest h.valid; room = let room = h.room in omega (arith, length-append s.journal (e ∷ [])) }
-may-go_on s Publish rest h = record { valid = All-tail IsValidStep Publish rest h.valid; room = h.room }
-may-go_on s (Read k) rest h = record { valid = All-tail IsValidStep (Read k) rest h.valid; room = h.room }
-may-go_on s (Tell k m) rest h = record { valid = All-tail IsValidStep (Tell k m) rest h.valid; room = h.room }
-
 -- the next step may come
-pub may-first : (s t : Station) (steps : List Step) (i : ℕ) (x : Step) → i < length steps → x ≡ get_or steps i x → RunsOn s steps i t → MayCome (length t.journal) x
-may-first s t steps i x lt here h = may-come (length t.journal) x (drop (i + 1) steps) (subst (MayRun (length t.journal)) (drop-here steps i x lt here) h.may)
+pub may-first : (s t : Station) (steps : List Step) (i : ℕ) (x : Step) → i < length steps → x ≡ get_or steps i x → RunsOn s steps i t → MayCome t x
+may-first s t steps i x lt here h = (subst (MayRun t) (drop-here steps i x lt here) h.may).0
 
 -- it is taken
 pub runs-more : (s t u : Station) (steps : List Step) (i : ℕ) (x : Step) → i < length steps → x ≡ get_or steps i x → RunsOn s steps i t → refusal_of t x ≡ None → u ≡ after t x → Rises t u → IsChained u → RunsOn s steps (i + 1) u
@@ -70,7 +56,7 @@ runs-more s t u steps i x lt here h free is rises chained =
       state = is ∙ ap (λ (v : Station). after v x) h.state ∙ sym (after_all-push s (take i steps) x) ∙ ap (after_all s) (sym more);
       taken = subst (AreTaken s) (sym more) (taken-push s (take i steps) x h.taken (subst (λ (v : Station). refusal_of v x ≡ None) h.state free));
       rises = rises_on s t u h.rises rises;
-      may = subst (λ (v : Station). MayRun (length v.journal) (drop (i + 1) steps)) (sym is) (may-go_on t x (drop (i + 1) steps) (subst (MayRun (length t.journal)) (drop-here steps i x lt here) h.may));
+      may = subst (λ (v : Station). MayRun v (drop (i + 1) steps)) (sym is) ((subst (MayRun t) (drop-here steps i x lt here) h.may).1 free);
       chained = chained;
     }
 

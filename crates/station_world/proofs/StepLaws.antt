@@ -1,5 +1,5 @@
 -- What a step that is not refused keeps: the chain of what is seen, published and entered, and that nothing is taken back.
-use Rattle.std.proofs.Common.{◌≡◌, ◌≢◌, ℕ, zero, suc, ◌+◌, ◌<◌, ◌≤◌, ◌==◌, Bool, true, false, List, [], ◌∷◌, ◌++◌, length, take, map, max, replicate, set, if◌then◌else◌, refl, sym, ap, ◌∙◌, subst, arith, length-append, true≢false, eqb, eq-eqb, ne_eqb}
+use Rattle.std.proofs.Common.{◌≡◌, ◌≢◌, ℕ, zero, suc, ◌+◌, ◌<◌, ◌≤◌, ◌==◌, Bool, true, false, List, [], ◌∷◌, length, take, max, replicate, if◌then◌else◌, refl, sym, ap, ◌∙◌, subst, arith, length-append, true≢false, eq-eqb}
 use Rattle.std.specs.Prelude.{All, Option, None, Some, nat_le, nat_lt, slice_index, slice_set}
 use Rattle.std.proofs.lemmas.Bool.Decides.{nat_tests}
 use Rattle.std.proofs.lemmas.List.{append-nil, get_or-set_same, get_or-set_other, take_all}
@@ -8,12 +8,10 @@ use Rattle.std.proofs.lemmas.Option.{none-some}
 use mathlib.Core.List.{IsPrefix}
 use mathlib.Core.Logic.{dite}
 use native.Mathlib.Decide.{ℕ_discrete}
-use Rattle.clock_page.specs.Page.{PageFields}
 use Rattle.journal_entry.specs.declared.entry.Entry.{Entry}
 use Rattle.station_world.specs.Machine.{IsChained, Rises, Station, after, published_page, refusal_of}
 use Rattle.station_world.specs.declared.step.Step.{Step}
 use Rattle.station_world.specs.declared.step.Step.TheVariants.{Enter, Publish, Read, Tell}
-use Rattle.station_world.specs.declared.step.StepRefusal.{StepRefusal}
 use Rattle.system_fold.specs.Page.{page_of}
 
 -- a step that is not refused passes each test

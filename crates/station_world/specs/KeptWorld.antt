@@ -1,6 +1,5 @@
 -- Scaffolding: what a world keeps, against the state that it is in.
 use Rattle.std.specs.Prelude.{◌≡◌, length}
-use Rattle.clock_page.specs.Page.{PageFields}
 use Rattle.station_world.specs.Machine.{IsChained, Station, published_page}
 use Rattle.station_world.specs.declared.world.World.TheInside.{Inside}
 use Rattle.system_fold.specs.KeptFold.{StandsForJournal}

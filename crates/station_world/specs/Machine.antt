@@ -70,9 +70,9 @@ pub record Rises (s t : Station) : Type 0 where
   pub readers : length t.seen ≡ length s.seen
   pub seen : (k : ℕ) → k < length s.seen → slice_index s.seen k ≤ slice_index t.seen k
 
--- an entry has to be valid except for its feed, and a journal has room for 2^22 of them
-abbrev pub MayCome : ℕ → Step → Type 0
-MayCome n (Enter e) = IsValidWhat e.what × (n < 2 ^ 22)
-MayCome n Publish = ⊤
-MayCome n (Read k) = ⊤
-MayCome n (Tell k m) = ⊤
+-- an entry is valid except for its feed, and where it is not refused, the journal has room for it: at most 2^22 are entered
+abbrev pub MayCome : Station → Step → Type 0
+MayCome s (Enter e) = IsValidWhat e.what × (refusal_of s (Enter e) ≡ None → length s.journal < 2 ^ 22)
+MayCome s Publish = ⊤
+MayCome s (Read k) = ⊤
+MayCome s (Tell k n) = ⊤

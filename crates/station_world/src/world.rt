@@ -78,8 +78,7 @@ impl World {
     }
 
     fn enter(&mut self, e: &Entry) -> Result<(), StepRefusal>
-        requires what { IsValidWhat e.now.what }
-        requires room { length self.old.journal < 2 ^ 22 }
+        requires { MayCome self.old (Enter e.now) }
         ensures ok { IfOk result
             (λ u. (refusal_of self.old (Enter e.now) ≡ None) × (self.new ≡ after self.old (Enter e.now))) }
         ensures err { IfErr result (λ r. (refusal_of self.old (Enter e.now) ≡ reason r) × (self.new ≡ self.old)) }
@@ -154,7 +153,7 @@ impl World {
     #[tactic(auto, using(crate::proofs::StepLaws::rises_after, crate::proofs::StepLaws::rises_self))]
     /// Makes a step; a reading gives a page, and any other step none. A step that is refused leaves the world as it was.
     pub fn step(&mut self, s: Step) -> Result<Option<Page>, StepRefusal>
-        requires { MayCome (length self.old.journal) s }
+        requires { MayCome self.old s }
         ensures ok { IfOk result
             (λ page. (refusal_of self.old s ≡ None) × (self.new ≡ after self.old s) × (page ≡ given self.old s)) }
         ensures err { IfErr result (λ r. (refusal_of self.old s ≡ reason r) × (self.new ≡ self.old)) }
@@ -187,7 +186,7 @@ impl World {
 
     /// Makes these steps in order, up to the first that is refused; those before it count.
     pub fn run(&mut self, steps: &[Step]) -> Result<(), StepRefusal>
-        requires { MayRun (length self.old.journal) steps.now }
+        requires { MayRun self.old steps.now }
         ensures ok { IfOk result (λ u. AreTaken self.old steps.now × (self.new ≡ after_all self.old steps.now)) }
         ensures err { IfErr result (λ r. StopsAt self.old steps.now r self.new) }
         ensures chained { IsChained self.new }

@@ -1,6 +1,7 @@
 //! Rows of the station as one machine without threads.
 ghost use Rattle.std.specs.Prelude.{◌≡◌, ◌≤◌, IfOk, length};
 ghost use Rattle.journal_entry.specs.declared.entry.What.TheVariants.{Notice};
+ghost use Rattle.station_world.specs.Machine.{Station};
 ghost use Rattle.station_world.specs.Runs.{MayRun};
 ghost use Rattle.system_fold.specs.Settings.{AreValid};
 
@@ -180,7 +181,7 @@ fn each_refusal_has_its_cause(rt: HostRuntime) {
 
 // Two entries are entered, published and read in turn.
 fn in_turn() -> [Step; 7]
-    ensures { MayRun 0 result }
+    ensures { (s : Station) → length s.journal ≡ 0 → MayRun s result }
 {
     [
         Step::Enter(announced(0)),
@@ -195,7 +196,7 @@ fn in_turn() -> [Step; 7]
 
 // Two entries, the first of which is not published.
 fn unpublished() -> [Step; 3]
-    ensures { MayRun 0 result }
+    ensures { (s : Station) → length s.journal ≡ 0 → MayRun s result }
 {
     [
         Step::Enter(announced(0)),

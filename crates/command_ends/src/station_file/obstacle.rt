@@ -2,7 +2,7 @@
 
 ghost use Rattle.std.specs.Prelude.{◌++◌, OnErr, OnOk, codes};
 ghost use Rattle.command_ends.specs.Reports.{Reports, status_in};
-ghost use Rattle.command_ends.specs.StationFile.{IsNamed, IsReported, many_line, station_line, status_at, line_at};
+ghost use Rattle.command_ends.specs.StationFile.{HasStatusLine, IsNamed, many_line, station_line, status_at, line_at};
 ghost use Rattle.command_ends.specs.Writing.{Answers};
 ghost use Rattle.command_ends.specs.declared.ending.status.Status.TheVariants.{Station};
 ghost use Rattle.outside_traits.specs.Writing.{WritesAll, WritesPrefix};
@@ -90,7 +90,7 @@ fn finish_faulty<K: Sink>(fault: StationFault, out: &mut K) -> Report
 
 /// Writes the status line of a run that an obstacle ends. The answer is the obstacle, or that a write has failed.
 pub fn finish_at<K: Sink>(obstacle: Obstacle, out: &mut K) -> Report
-    ensures answers { IsReported obstacle →
+    ensures answers { HasStatusLine obstacle →
         Answers (status_at obstacle) (status_in result) (K.state out.old) (K.state out.new) (line_at obstacle) }
     ensures reports { Reports result (K.state out.old) (K.state out.new) }
 {

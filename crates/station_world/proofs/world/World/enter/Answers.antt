@@ -1,5 +1,5 @@
 -- What the search leaves open of `World::enter`.
-use Rattle.std.proofs.Common.{◌≡◌, ℕ, ◌≤◌, ◌<◌, ◌+◌, List, [], ◌∷◌, ◌++◌, length, rules, refl, sym, ap, ◌∙◌, subst, arith, length-append}
+use Rattle.std.proofs.Common.{◌≡◌, ◌<◌, List, [], ◌∷◌, ◌++◌, length, rules, sym, ap, ◌∙◌, subst, arith, length-append}
 use Rattle.journal_entry.specs.declared.entry.Entry.{Entry}
 use Rattle.station_world.specs.KeptWorld.{state_of}
 use Rattle.station_world.specs.Machine.{published_page}
@@ -15,7 +15,7 @@ step-requires-clause-valid c =
     let feeds = ap (λ (fs : List Feed). length fs) c.self.invariant.fold.feeds ∙ feeds-length w.settings.value w.entries.items in
     let below : c.args.e.now.feed < w.feeds = search rules in
     let known = c.self.invariant.feeds in
-    record { feed = omega (arith, feeds, below, known); what = c.requires.what }
+    record { feed = omega (arith, feeds, below, known); what = c.requires.0 }
 
 pub invariant_of-self-2 : goal.invariant_of-self-2
 invariant_of-self-2 c =

@@ -1,7 +1,6 @@
-use Rattle.std.proofs.Common.{◌≡◌, ℕ, ◌≤◌, List, [], replicate, rules, refl, sym, ap, ◌∙◌, subst, arith}
+use Rattle.std.proofs.Common.{ℕ, ◌≤◌, [], rules, sym, subst}
 use Rattle.std.specs.Prelude.{All}
 use Rattle.station_world.specs.Machine.{published_page}
-use Rattle.system_fold.specs.KeptFold.{StandsForJournal}
 use Rattle.station_world.proofs.StepLaws.{none_seen}
 use Rattle.station_world.proofs.world.World.new.Goals as goal
 

@@ -1,6 +1,5 @@
-use Rattle.std.proofs.Common.{◌≡◌, ℕ, ◌≤◌, ◌+◌, List, length, rules, refl, sym, ap, ◌∙◌, subst, arith}
-use Rattle.std.specs.Prelude.{◌==◌, None, false}
-use Rattle.station_world.specs.KeptWorld.{IsKept, state_of}
+use Rattle.std.proofs.Common.{◌≡◌, ℕ, ◌≤◌, length, rules, sym, ◌∙◌, arith}
+use Rattle.station_world.specs.KeptWorld.{state_of}
 use Rattle.station_world.proofs.StepLaws.{page_of_all}
 use Rattle.station_world.proofs.world.World.publish.Goals as goal
 

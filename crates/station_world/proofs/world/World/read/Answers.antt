@@ -1,4 +1,4 @@
-use Rattle.std.proofs.Common.{◌≡◌, ℕ, ◌≤◌, refl, arith}
+use Rattle.std.proofs.Common.{ℕ, ◌≤◌, arith}
 use Rattle.std.proofs.lemmas.List.Elements.{All-set}
 use Rattle.station_world.specs.Machine.{published_page}
 use Rattle.station_world.proofs.world.World.read.Goals as goal

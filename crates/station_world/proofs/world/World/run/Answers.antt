@@ -1,9 +1,5 @@
 -- What the search leaves open of `World::run`.
-use Rattle.std.proofs.Common.{◌≡◌, rules, sym, ap, ◌∙◌, subst}
-use Rattle.std.specs.Prelude.{IfErr, None}
-use Rattle.station_world.specs.Machine.{IsChained, refusal_of}
-use Rattle.station_world.specs.Runs.{StopsAt}
-use Rattle.station_world.specs.declared.step.StepRefusal.{StepRefusal}
+use Rattle.std.proofs.Common.{rules}
 use Rattle.station_world.proofs.RunLaws.{may-first, runs-more, stops-here}
 use Rattle.station_world.proofs.world.World.run.Goals as goal
 

@@ -1,4 +1,4 @@
-use Rattle.std.proofs.Common.{◌≡◌, ℕ, ◌≤◌, rules, refl, arith}
+use Rattle.std.proofs.Common.{ℕ, ◌≤◌, rules}
 use Rattle.std.proofs.lemmas.List.Elements.{All-set, All-get_or}
 use Rattle.station_world.specs.Machine.{published_page}
 use Rattle.station_world.proofs.world.World.tell.Goals as goal
