@@ -1,6 +1,9 @@
 -- What a loop keeps that takes workers from a list and puts what each of them leaves after what others left.
-use Rattle.std.proofs.Common.{◌≡◌, ℕ, ◌+◌, ◌≤◌, List, [], ◌∷◌, ◌++◌, map, length, sym, ap, ◌∙◌, arith, append_assoc}
+use Rattle.std.proofs.Common.{◌≡◌, ℕ, ◌+◌, ◌≤◌, List, [], ◌∷◌, ◌++◌, map, length, refl, sym, ap, ◌∙◌, arith, append_assoc}
+use Rattle.std.specs.Prelude.{Option, None, Some}
+use Rattle.std.specs.Option.{option_to_list}
 use Rattle.std.proofs.lemmas.List.{append-nil}
+use Rattle.feed_workers.specs.Lists.{Both}
 
 -- one worker left one thing more
 pub left_more : {J X : Type 0} (f : J → X) (xs ys : List X) (js ks : List J) (j : J) (x : X) (all : List X) → ys ≡ xs ++ x ∷ [] → js ≡ j ∷ ks → x ≡ f j → xs ++ map f js ≡ all → ys ++ map f ks ≡ all
@@ -14,3 +17,10 @@ room_after js ks j before after room now split pushed same fits = let one = ap l
 -- all of them left what they had
 pub left_all : {J X : Type 0} (f : J → X) (xs ys : List X) (js ks all : List J) → js ≡ [] → ks ≡ all → xs ++ map f js ≡ ys ++ map f ks → xs ≡ ys ++ map f all
 left_all f xs ys js ks all none given before = sym (append-nil xs) ∙ ap (λ l. xs ++ map f l) (sym none) ∙ before ∙ ap (λ l. ys ++ map f l) given
+
+-- a worker that ran is still there
+pub both_length : {X Y : Type 0} (ran : X → Y → Type 0) (o : Option X) (p : Option Y) → Both ran o p → length (option_to_list p) ≡ length (option_to_list o)
+both_length ran None None both = refl
+both_length ran None (Some y) both = absurd both
+both_length ran (Some x) None both = absurd both
+both_length ran (Some x) (Some y) both = refl

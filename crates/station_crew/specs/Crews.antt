@@ -1,10 +1,10 @@
 -- Scaffolding: what all workers of a station do.
-use Rattle.std.specs.Prelude.{◌≡◌, ◌≤◌, ℕ, ◌+◌, List, [], All, None, IfSome, map, option_map, vec_capacity, vec_len}
+use Rattle.std.specs.Prelude.{◌≡◌, ◌≤◌, ℕ, List, [], All, None, IfSome, map, option_map, vec_capacity, vec_len}
 use Rattle.std.specs.List.{range_with_len}
 use Rattle.atomic_table.specs.Seated.{TableId}
 use Rattle.kiss_gate.specs.Gates.{Gate}
 use Rattle.packet_auth.specs.Keys.{keys_of}
-use Rattle.page_cell.specs.Passes.{KnownReader}
+use Rattle.page_cell.specs.Passes.{Known, KnownReader}
 use Rattle.radio_receiver.specs.Boxes.{Boxed}
 use Rattle.radio_receiver.specs.Histories.{History}
 use Rattle.station_values.specs.Station.{StationFields, gate_of}
@@ -13,8 +13,6 @@ use Rattle.station_crew.specs.Collecting.{file_of, link_of, log_of, number_of, p
 use Rattle.feed_workers.specs.Lists.{Pairs}
 use Rattle.feed_workers.specs.declared.crew.Work.{Work}
 use Rattle.station_crew.specs.declared.crew.Crew.{Crew}
-use Rattle.station_crew.specs.declared.crew.Collected.{Collected}
-use Rattle.station_crew.specs.declared.crew.Passes.{Passes}
 use Rattle.station_crew.specs.declared.crew.Reserved.{Reserved}
 use Rattle.station_gear.specs.declared.gear.Gear.{Gear}
 
@@ -35,7 +33,7 @@ pub record HasRoomFor {L T X : Type 0} {F : X → Type 0} (of_radios of_servers 
   pub pollers : of_servers ≤ vec_capacity crew.pollers
   pub responders : of_links ≤ vec_capacity crew.responders
 
--- room for logs and links
+-- it has no log and no link, and room for this many
 pub record HasRoomForGear {L T : Type 0} (of_radios of_servers of_links : ℕ) (gear : Gear L T) : Type 0 where
   pub no_logs : gear.logs.items ≡ []
   pub no_leap : gear.leap ≡ None
@@ -55,25 +53,12 @@ pub record HasRoomForWork (of_radios of_servers of_links : ℕ) (work : Work) : 
   pub servers : of_servers ≤ vec_capacity work.servers
   pub links : of_links ≤ vec_capacity work.links
 
--- room for the passes; a leap second file may have a feed too
-pub record HasRoomForPasses (of_radios of_servers of_links : ℕ) (passes : Passes) : Type 0 where
-  pub no_feeds : passes.feeds.items ≡ []
-  pub no_readers : passes.readers.items ≡ []
-  pub feeds : of_radios + of_servers + 1 ≤ vec_capacity passes.feeds
-  pub readers : of_links ≤ vec_capacity passes.readers
-
--- room for what the workers leave
-pub record HasRoomToCollect {L T : Type 0} (of_radios of_servers of_links : ℕ) (collected : Collected L T) : Type 0 where
-  pub gear : HasRoomForGear of_radios of_servers of_links collected.gear
-  pub work : HasRoomForWork of_radios of_servers of_links collected.work
-  pub passes : HasRoomForPasses of_radios of_servers of_links collected.passes
-
 -- room for all of it, and for the responders of the second phase; and this gate once for each link
 pub record HasRoom {L T X : Type 0} {F : X → Type 0} (gate : Gate) (of_radios of_servers of_links : ℕ) (room : Reserved L T X F) : Type 0 where
   pub crew : HasRoomFor of_radios of_servers of_links room.crew
   pub none_informed : room.informed.items ≡ []
   pub informed : of_links ≤ vec_capacity room.informed
-  pub collected : HasRoomToCollect of_radios of_servers of_links room.collected
+  pub work : HasRoomForWork of_radios of_servers of_links room.work
   pub gates : vec_len room.gates ≡ of_links
   pub alike : All (λ g. g ≡ gate) room.gates.items
 
@@ -91,21 +76,19 @@ pub record CrewAssigned {L T X : Type 0} {F : X → Type 0} (stands : Boxed X F 
   pub keyed : All (λ j. keys_of j.responder.keys ≡ station.keys) crew.responders.items
   pub gated : All (λ j. j.responder.clients ≡ gate_of station) crew.responders.items
 
--- the feeds' workers of a crew left this
-pub record FeedsCollected {L T X : Type 0} {F : X → Type 0} (crew : Crew L T X F) (collected : Collected L T) : Type 0 where
-  pub logs : collected.gear.logs.items ≡ map log_of crew.radios.items
-  pub servers : collected.gear.servers.items ≡ map server_link crew.pollers.items
-  pub file : collected.gear.leap ≡ option_map file_of crew.leap
-  pub log_works : collected.work.radios.items ≡ map (λ j. j.work) crew.radios.items
-  pub poll_works : collected.work.servers.items ≡ map (λ j. j.work) crew.pollers.items
-  pub leap_work : collected.work.leap ≡ option_map (λ j. j.work) crew.leap
-  pub feeds : collected.passes.feeds.items ≡ passes_of crew.radios.items crew.pollers.items crew.leap
+-- the feeds' workers of a crew gave back these logs and links and these passes, and did this
+pub record FeedsCollected {L T X : Type 0} {F : X → Type 0} (crew : Crew L T X F) (gear : Gear L T) (work : Work) (feeds : List Known) : Type 0 where
+  pub logs : gear.logs.items ≡ map log_of crew.radios.items
+  pub servers : gear.servers.items ≡ map server_link crew.pollers.items
+  pub file : gear.leap ≡ option_map file_of crew.leap
+  pub log_works : work.radios.items ≡ map (λ j. j.work) crew.radios.items
+  pub poll_works : work.servers.items ≡ map (λ j. j.work) crew.pollers.items
+  pub leap_work : work.leap ≡ option_map (λ j. j.work) crew.leap
+  pub feeds_are : feeds ≡ passes_of crew.radios.items crew.pollers.items crew.leap
 
 -- room for what this many responders leave
-pub record HasRoomForServed {L T : Type 0} (of_links : ℕ) (collected : Collected L T) : Type 0 where
-  pub no_links : collected.gear.links.items ≡ []
-  pub no_works : collected.work.links.items ≡ []
-  pub no_readers : collected.passes.readers.items ≡ []
-  pub links : of_links ≤ vec_capacity collected.gear.links
-  pub works : of_links ≤ vec_capacity collected.work.links
-  pub readers : of_links ≤ vec_capacity collected.passes.readers
+pub record HasRoomForServed {L T : Type 0} (of_links : ℕ) (gear : Gear L T) (work : Work) : Type 0 where
+  pub no_links : gear.links.items ≡ []
+  pub no_works : work.links.items ≡ []
+  pub links : of_links ≤ vec_capacity gear.links
+  pub works : of_links ≤ vec_capacity work.links

@@ -6,7 +6,7 @@ ghost use Rattle.std.specs.Option.{option_to_list};
 ghost use Rattle.packet_auth.specs.Keys.{keys_of};
 ghost use Rattle.station_values.specs.Station.{IsStation, gate_of};
 ghost use Rattle.station_values.specs.KeptStation.{server_fields};
-ghost use Rattle.station_crew.specs.Crews.{CrewAssigned, HasRoomFor};
+ghost use Rattle.station_crew.specs.Crews.{CrewAssigned, HasRoomFor, HasRoomForGear};
 ghost use Rattle.station_crew.specs.Jobs.{IsAssigned};
 ghost use Rattle.station_crew.specs.Collecting.{file_of, leap_pass, link_of, log_of, number_of, passes_of};
 ghost use Rattle.station_crew.specs.Collecting.{poll_pass, radio_pass, serve_pass, server_link, server_of};
@@ -14,7 +14,7 @@ ghost use Rattle.station_gear.specs.Opens.{IsWhole};
 ghost use Rattle.feed_workers.specs.Served.{AreBlank};
 ghost use Rattle.feed_workers.specs.Lists.{Pairs};
 
-use crate::crew::{Crew, Equipment, Passes};
+use crate::crew::{Crew, Equipment};
 use crate::jobs::{LeapJob, PollJob, RadioJob, ServeJob};
 use feed_workers::{
     LeapWorker, LinkWork, LogEnd, LogWork, PollEnd, PollWork, PollWorker, RadioWorker,
@@ -24,7 +24,6 @@ use outside_traits::{Link, Source};
 use page_cell::{FeedPass, ReadPass};
 use radio_receiver::{BoxedReceiver, Receiver};
 use responder::{End, Responder, Served};
-use station_gear::Gear;
 use station_values::{ServerRow, Station};
 use tick_units::Local;
 
@@ -62,23 +61,27 @@ fn assign_radio<L: Source + Drop>(receiver: BoxedReceiver, log: L, pass: FeedPas
 
 // A worker for each radio, with its receiver, its log and the pass of its feed.
 fn assign_radios<L: Source + Drop>(
-    receivers: Vec<BoxedReceiver>,
-    logs: Vec<L>,
+    receivers: &mut Vec<BoxedReceiver>,
+    logs: &mut Vec<L>,
     feeds: &mut Vec<FeedPass>,
     jobs: &mut Vec<RadioJob<L>>,
 )
-    requires blank { All (λ b. least_start b ≡ 0) receivers.items }
-    requires receivers { vec_len receivers ≡ vec_len logs }
-    requires feeds { vec_len logs ≤ vec_len feeds.old }
+    requires blank { All (λ b. least_start b ≡ 0) receivers.old.items }
+    requires receivers { vec_len receivers.old ≡ vec_len logs.old }
+    requires feeds { vec_len logs.old ≤ vec_len feeds.old }
     requires none { jobs.old.items ≡ [] }
-    requires room { vec_len logs ≤ vec_capacity jobs.old }
-    ensures logs { map log_of jobs.new.items ≡ logs.items }
+    requires room { vec_len logs.old ≤ vec_capacity jobs.old }
+    ensures logs { map log_of jobs.new.items ≡ logs.old.items }
+    ensures emptied { logs.new.items ≡ [] }
+    ensures logs_room { vec_capacity logs.new ≡ vec_capacity logs.old }
     ensures feeds { map radio_pass jobs.new.items ++ feeds.new.items ≡ feeds.old.items }
-    ensures assigned { Pairs (IsAssigned stands_for least_start) receivers.items jobs.new.items }
+    ensures feeds_room { vec_capacity feeds.new ≡ vec_capacity feeds.old }
+    ensures assigned { Pairs (IsAssigned stands_for least_start) receivers.old.items jobs.new.items }
 {
-    let mut receivers = receivers;
-    for log in logs {
+    let count = logs.len();
+    for _ in 0..count {
         let receiver = receivers.remove(0);
+        let log = logs.remove(0);
         let pass = feeds.remove(0);
         jobs.push_reserved(assign_radio(receiver, log, pass));
     }
@@ -98,22 +101,28 @@ fn server_at(station: &Station, place: usize) -> ServerRow
 // A worker for each server, with its link and the pass of its feed.
 fn assign_pollers<T: Link + Drop>(
     station: &Station,
-    links: Vec<T>,
+    links: &mut Vec<T>,
     feeds: &mut Vec<FeedPass>,
     jobs: &mut Vec<PollJob<T>>,
 )
-    requires links { vec_len links ≡ length station.now.servers }
-    requires feeds { vec_len links ≤ vec_len feeds.old }
+    requires links { vec_len links.old ≡ length station.now.servers }
+    requires feeds { vec_len links.old ≤ vec_len feeds.old }
     requires none { jobs.old.items ≡ [] }
-    requires room { vec_len links ≤ vec_capacity jobs.old }
-    ensures links { map server_link jobs.new.items ≡ links.items }
+    requires room { vec_len links.old ≤ vec_capacity jobs.old }
+    ensures links { map server_link jobs.new.items ≡ links.old.items }
+    ensures emptied { links.new.items ≡ [] }
+    ensures links_room { vec_capacity links.new ≡ vec_capacity links.old }
     ensures servers { map server_of jobs.new.items ≡ station.now.servers }
     ensures feeds { map poll_pass jobs.new.items ++ feeds.new.items ≡ feeds.old.items }
+    ensures feeds_room { vec_capacity feeds.new ≡ vec_capacity feeds.old }
 {
-    for link in links {
+    let count = links.len();
+    for _ in 0..count {
         let ServerRow { address, polls } = server_at(station, jobs.len());
+        let link = links.remove(0);
+        let pass = feeds.remove(0);
         jobs.push_reserved(PollJob {
-            worker: PollWorker::new(address, polls, link, feeds.remove(0)),
+            worker: PollWorker::new(address, polls, link, pass),
             work: UNASKED,
         });
     }
@@ -121,16 +130,18 @@ fn assign_pollers<T: Link + Drop>(
 
 // A worker for the leap second file, where there is one, with the station's first moment and the pass of its feed.
 fn assign_leap<L: Source + Drop>(
-    file: Option<L>,
+    file: &mut Option<L>,
     start: Local,
     feeds: &mut Vec<FeedPass>,
 ) -> Option<LeapJob<L>>
-    requires feeds { length (option_to_list file) ≤ vec_len feeds.old }
-    ensures file { option_map file_of result ≡ file }
+    requires feeds { length (option_to_list file.old) ≤ vec_len feeds.old }
+    ensures file { option_map file_of result ≡ file.old }
+    ensures emptied { file.new ≡ None }
     ensures begins { IfSome result (λ j. j.worker.start ≡ start) }
     ensures feeds { map leap_pass (option_to_list result) ++ feeds.new.items ≡ feeds.old.items }
+    ensures feeds_room { vec_capacity feeds.new ≡ vec_capacity feeds.old }
 {
-    match file {
+    match file.take() {
         Some(log) => Some(LeapJob {
             worker: LeapWorker::new(log, start, feeds.remove(0)),
             work: UNREAD,
@@ -143,28 +154,33 @@ fn assign_leap<L: Source + Drop>(
 // and a gate of clients.
 fn assign_responders<T: Link + Drop>(
     station: &Station,
-    links: Vec<T>,
+    links: &mut Vec<T>,
     readers: &mut Vec<ReadPass>,
     gates: Vec<ClientGate>,
     jobs: &mut Vec<ServeJob<T>>,
 )
-    requires readers { vec_len links ≤ vec_len readers.old }
-    requires gates { vec_len links ≤ vec_len gates }
+    requires readers { vec_len links.old ≤ vec_len readers.old }
+    requires gates { vec_len links.old ≤ vec_len gates }
     requires alike { All (λ gate. gate ≡ gate_of station.now) gates.items }
-    requires few { vec_len links ≤ 8 }
+    requires few { vec_len links.old ≤ 8 }
     requires none { jobs.old.items ≡ [] }
-    requires room { vec_len links ≤ vec_capacity jobs.old }
-    ensures links { map link_of jobs.new.items ≡ links.items }
+    requires room { vec_len links.old ≤ vec_capacity jobs.old }
+    ensures links { map link_of jobs.new.items ≡ links.old.items }
+    ensures emptied { links.new.items ≡ [] }
+    ensures links_room { vec_capacity links.new ≡ vec_capacity links.old }
     ensures readers { map serve_pass jobs.new.items ++ readers.new.items ≡ readers.old.items }
-    ensures numbers { map number_of jobs.new.items ≡ range_with_len 0 (vec_len links) }
+    ensures readers_room { vec_capacity readers.new ≡ vec_capacity readers.old }
+    ensures numbers { map number_of jobs.new.items ≡ range_with_len 0 (vec_len links.old) }
     ensures none { All (λ j. j.work.second ≡ None) jobs.new.items }
     ensures keyed { All (λ j. keys_of j.responder.keys ≡ station.now.keys) jobs.new.items }
     ensures gated { All (λ j. j.responder.clients ≡ gate_of station.now) jobs.new.items }
 {
     let keys = station.keys();
     let mut gates = gates;
-    for link in links {
+    let count = links.len();
+    for _ in 0..count {
         let number = jobs.len() as u32;
+        let link = links.remove(0);
         let pass = readers.remove(0);
         let gate = gates.remove(0);
         jobs.push_reserved(ServeJob {
@@ -177,42 +193,48 @@ fn assign_responders<T: Link + Drop>(
     }
 }
 
-/// The workers of a station, each with its pass, in the room of a crew.
+/// The workers of a station, each with its pass, in the room of a crew. They take the receivers, the logs and links and the passes:
+/// room is left for what they give back.
 pub fn assign_crew<L: Source + Drop, T: Link + Drop>(
     station: &Station,
-    equipment: Equipment<BoxedReceiver, L, T>,
-    passes: Passes,
+    equipment: &mut Equipment<BoxedReceiver, L, T>,
+    feeds: &mut Vec<FeedPass>,
+    readers: &mut Vec<ReadPass>,
     gates: Vec<ClientGate>,
     crew: Crew<L, T>,
 ) -> Crew<L, T>
     requires station { IsStation station.now }
-    requires blank { AreBlank stands_for least_start station.now.radios equipment.receivers.items }
-    requires gear { IsWhole station.now equipment.gear }
-    requires feeds { vec_len passes.feeds
-        ≡ vec_len equipment.gear.logs + vec_len equipment.gear.servers + length (option_to_list equipment.gear.leap) }
-    requires readers { vec_len passes.readers ≡ vec_len equipment.gear.links }
-    requires gates { vec_len gates ≡ vec_len equipment.gear.links }
+    requires blank { AreBlank stands_for least_start station.now.radios equipment.old.receivers.items }
+    requires gear { IsWhole station.now equipment.old.gear }
+    requires feeds { let file = length (option_to_list equipment.old.gear.leap) in
+        vec_len feeds.old ≡ vec_len equipment.old.gear.logs + vec_len equipment.old.gear.servers + file }
+    requires readers { vec_len readers.old ≡ vec_len equipment.old.gear.links }
+    requires gates { vec_len gates ≡ vec_len equipment.old.gear.links }
     requires alike { All (λ gate. gate ≡ gate_of station.now) gates.items }
-    requires room { HasRoomFor (vec_len equipment.gear.logs) (vec_len equipment.gear.servers) (vec_len equipment.gear.links) crew }
-    ensures assigned { CrewAssigned stands_for least_start station.now equipment.receivers.items equipment.gear result }
-    ensures feeds { passes_of result.radios.items result.pollers.items result.leap ≡ passes.feeds.items }
-    ensures readers { map serve_pass result.responders.items ≡ passes.readers.items }
+    requires room { let had = equipment.old.gear in
+        HasRoomFor (vec_len had.logs) (vec_len had.servers) (vec_len had.links) crew }
+    ensures assigned { let had = equipment.old in
+        CrewAssigned stands_for least_start station.now had.receivers.items had.gear result }
+    ensures emptied { let had = equipment.old.gear in
+        HasRoomForGear (vec_len had.logs) (vec_len had.servers) (vec_len had.links) equipment.new.gear }
+    ensures feeds { passes_of result.radios.items result.pollers.items result.leap ≡ feeds.old.items }
+    ensures no_feeds { feeds.new.items ≡ [] }
+    ensures feeds_room { vec_capacity feeds.new ≡ vec_capacity feeds.old }
+    ensures readers { map serve_pass result.responders.items ≡ readers.old.items }
+    ensures no_readers { readers.new.items ≡ [] }
+    ensures readers_room { vec_capacity readers.new ≡ vec_capacity readers.old }
 {
     let Equipment { receivers, gear } = equipment;
-    let Gear {
-        logs,
-        leap,
-        servers,
-        links,
-    } = gear;
-    let Passes {
-        mut feeds,
-        mut readers,
-    } = passes;
     let mut crew = crew;
-    assign_radios(receivers, logs, &mut feeds, &mut crew.radios);
-    assign_pollers(station, servers, &mut feeds, &mut crew.pollers);
-    crew.leap = assign_leap(leap, station.start(), &mut feeds);
-    assign_responders(station, links, &mut readers, gates, &mut crew.responders);
+    assign_radios(receivers, &mut gear.logs, feeds, &mut crew.radios);
+    assign_pollers(station, &mut gear.servers, feeds, &mut crew.pollers);
+    crew.leap = assign_leap(&mut gear.leap, station.start(), feeds);
+    assign_responders(
+        station,
+        &mut gear.links,
+        readers,
+        gates,
+        &mut crew.responders,
+    );
     crew
 }

@@ -1,15 +1,16 @@
 // What workers give back: logs and links, what they did, and their passes.
-ghost use Rattle.std.specs.Prelude.{◌≡◌, ◌≤◌, ◌+◌, ◌++◌, length, map, option_map, vec_capacity, vec_len};
+ghost use Rattle.std.specs.Prelude.{◌≡◌, ◌≤◌, ◌+◌, ◌++◌, [], length, map, option_map, vec_capacity, vec_len};
 ghost use Rattle.std.specs.Option.{option_to_list};
-ghost use Rattle.station_crew.specs.Crews.{FeedsCollected, HasRoomForServed, HasRoomToCollect};
+ghost use Rattle.station_crew.specs.Crews.{FeedsCollected, HasRoomForGear, HasRoomForServed, HasRoomForWork};
 ghost use Rattle.station_crew.specs.Collecting.{file_of, leap_pass, link_of, log_of, poll_pass};
 ghost use Rattle.station_crew.specs.Collecting.{radio_pass, serve_pass, server_link};
 
-use crate::crew::{Collected, Crew};
+use crate::crew::Crew;
 use crate::jobs::{LeapJob, PollJob, RadioJob, ServeJob};
-use feed_workers::{LinkWork, LogWork, PollWork};
+use feed_workers::{LinkWork, LogWork, PollWork, Work};
 use outside_traits::{Link, Source};
 use page_cell::{FeedPass, ReadPass};
+use station_gear::Gear;
 
 // The radios' workers give back their logs, what they did, and their passes.
 fn collect_radios<L: Source + Drop>(
@@ -82,12 +83,18 @@ fn collect_leap<L: Source + Drop>(
 /// The feeds' workers give back their logs and links, what they did, and their passes. The responders are still there.
 pub fn collect_feeds<L: Source + Drop, T: Link + Drop>(
     crew: Crew<L, T>,
-    collected: Collected<L, T>,
-) -> (Vec<ServeJob<T>>, Collected<L, T>)
-    requires { HasRoomToCollect (vec_len crew.radios) (vec_len crew.pollers) (vec_len crew.responders) collected }
-    ensures responders { result.0 ≡ crew.responders }
-    ensures feeds { FeedsCollected crew result.1 }
-    ensures room { HasRoomForServed (vec_len crew.responders) result.1 }
+    gear: &mut Gear<L, T>,
+    work: &mut Work,
+    feeds: &mut Vec<FeedPass>,
+) -> Vec<ServeJob<T>>
+    requires gear { HasRoomForGear (vec_len crew.radios) (vec_len crew.pollers) (vec_len crew.responders) gear.old }
+    requires work { HasRoomForWork (vec_len crew.radios) (vec_len crew.pollers) (vec_len crew.responders) work.old }
+    requires none { feeds.old.items ≡ [] }
+    requires room { let file = length (option_to_list crew.leap) in
+        vec_len crew.radios + vec_len crew.pollers + file ≤ vec_capacity feeds.old }
+    ensures responders { result ≡ crew.responders }
+    ensures feeds { FeedsCollected crew gear.new work.new feeds.new.items }
+    ensures served { HasRoomForServed (vec_len crew.responders) gear.new work.new }
 {
     let Crew {
         radios,
@@ -95,23 +102,12 @@ pub fn collect_feeds<L: Source + Drop, T: Link + Drop>(
         leap,
         responders,
     } = crew;
-    let mut collected = collected;
-    collect_radios(
-        radios,
-        &mut collected.gear.logs,
-        &mut collected.work.radios,
-        &mut collected.passes.feeds,
-    );
-    collect_pollers(
-        pollers,
-        &mut collected.gear.servers,
-        &mut collected.work.servers,
-        &mut collected.passes.feeds,
-    );
-    let (file, work) = collect_leap(leap, &mut collected.passes.feeds);
-    collected.gear.leap = file;
-    collected.work.leap = work;
-    (responders, collected)
+    collect_radios(radios, &mut gear.logs, &mut work.radios, feeds);
+    collect_pollers(pollers, &mut gear.servers, &mut work.servers, feeds);
+    let (file, done) = collect_leap(leap, feeds);
+    gear.leap = file;
+    work.leap = done;
+    responders
 }
 
 /// The responders give back their links, what they did, and their passes.

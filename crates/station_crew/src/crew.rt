@@ -3,7 +3,7 @@
 use crate::jobs::{LeapJob, PollJob, RadioJob, ServeJob};
 use feed_workers::Work;
 use kiss_gate::ClientGate;
-use page_cell::{CellParts, FeedPass, ReadPass};
+use page_cell::CellParts;
 use station_gear::Gear;
 use std::alloc::Global;
 use verdict_journal::Journal;
@@ -15,23 +15,16 @@ pub struct Equipment<B: Drop, L: Drop, T: Drop> {
     pub gear: Gear<L, T>,
 }
 
-/// The memory that a station is served in: the parts of its cell, room for its workers and for what they leave, and a gate of
-/// clients for each link. The hub takes the room for its entries from `alloc`.
+/// The memory that a station is served in: the parts of its cell, room for its workers and for what they did, and a gate of clients
+/// for each link. The hub takes the room for its entries from `alloc`.
 #[derive(Drop)]
 pub struct Reserved<L: Drop, T: Drop> {
     pub alloc: Global,
     pub parts: CellParts,
     pub crew: Crew<L, T>,
     pub informed: Vec<ServeJob<T>>,
-    pub collected: Collected<L, T>,
+    pub work: Work,
     pub gates: Vec<ClientGate>,
-}
-
-/// The passes of a cell.
-#[derive(Drop)]
-pub struct Passes {
-    pub feeds: Vec<FeedPass>,
-    pub readers: Vec<ReadPass>,
 }
 
 /// The workers of a station, each in the station's order.
@@ -41,14 +34,6 @@ pub struct Crew<L: Drop, T: Drop> {
     pub pollers: Vec<PollJob<T>>,
     pub leap: Option<LeapJob<L>>,
     pub responders: Vec<ServeJob<T>>,
-}
-
-/// What the workers leave, each in the station's order: logs and links, what they did, and the passes.
-#[derive(Drop)]
-pub struct Collected<L: Drop, T: Drop> {
-    pub gear: Gear<L, T>,
-    pub work: Work,
-    pub passes: Passes,
 }
 
 /// What a station leaves: its journal, its logs and links, and what was done with each, in the station's order.

@@ -11,7 +11,7 @@ ghost use Rattle.feed_workers.specs.Served.{column_of, seen, service_of};
 
 use crate::assigning::assign_crew;
 use crate::collecting::{collect_feeds, collect_responders};
-use crate::crew::{Collected, Ended, Equipment, Passes, Reserved};
+use crate::crew::{Ended, Equipment, Reserved};
 use crate::informing::inform_responders;
 use crate::phases::{run_first, run_second};
 use feed_workers::Orders;
@@ -75,7 +75,7 @@ pub fn serve_named<
         parts,
         crew,
         mut informed,
-        collected,
+        mut work,
         gates,
     } = room;
     let Ok(parts) = Hub::<N>::open(alloc, parts, station.settings(), orders.limit) else {
@@ -83,28 +83,26 @@ pub fn serve_named<
     };
     let HubParts {
         hub,
-        feeds,
-        readers,
+        mut feeds,
+        mut readers,
     } = parts;
-    let mut crew = assign_crew(station, equipment, Passes { feeds, readers }, gates, crew);
+    let mut equipment = equipment;
+    let mut crew = assign_crew(
+        station,
+        &mut equipment,
+        &mut feeds,
+        &mut readers,
+        gates,
+        crew,
+    );
     run_first(rt, &hub, gate, orders.budget.during, &mut crew);
-    let (responders, mut collected) = collect_feeds(crew, collected);
-    inform_responders(
-        hub.cell(),
-        &mut collected.passes.feeds,
-        responders,
-        &mut informed,
-    );
+    let Equipment { mut gear, .. } = equipment;
+    let responders = collect_feeds(crew, &mut gear, &mut work, &mut feeds);
+    inform_responders(hub.cell(), &mut feeds, responders, &mut informed);
     run_second(rt, &hub, gate, orders.budget.after, &mut informed);
-    collect_responders(
-        informed,
-        &mut collected.gear.links,
-        &mut collected.work.links,
-        &mut collected.passes.readers,
-    );
-    let Collected { gear, work, passes } = collected;
+    collect_responders(informed, &mut gear.links, &mut work.links, &mut readers);
     Ok(Ended {
-        journal: hub.close(passes.feeds, passes.readers),
+        journal: hub.close(feeds, readers),
         gear,
         work,
     })

@@ -1,13 +1,12 @@
 //! Serves a station whose logs and links are open.
-ghost use Rattle.std.specs.Prelude.{◌≡◌, ◌<◌, ◌≤◌, ◌^◌, ◌+◌, All, IfErr, IfOk, length, vec_len};
+ghost use Rattle.std.specs.Prelude.{◌≡◌, ◌<◌, ◌≤◌, All, IfErr, IfOk, length, vec_len};
 ghost use Rattle.station_values.specs.Station.{gate_of, leap_feed, settings_of};
-ghost use Rattle.station_crew.specs.Crews.{HasRoom, HasRoomFor, HasRoomToCollect};
-ghost use Rattle.station_crew.specs.Crews.{HasRoomForGear, HasRoomForPasses, HasRoomForWork};
+ghost use Rattle.station_crew.specs.Crews.{HasRoom, HasRoomFor, HasRoomForWork};
 ghost use Rattle.station_gear.specs.Opens.{IsWhole};
 ghost use Rattle.feed_workers.specs.Served.{AreBlank, IsJournalOf, LeapServed, LinksServed, RadiosServed, ServersServed};
 ghost use Rattle.feed_workers.specs.Served.{column_of, seen, service_of};
 
-use crate::crew::{Collected, Crew, Ended, Equipment, Passes, Reserved};
+use crate::crew::{Crew, Ended, Equipment, Reserved};
 use crate::named::serve_named;
 use feed_workers::{Orders, Work};
 use kiss_gate::{ClientGate, GateOpen};
@@ -41,18 +40,6 @@ fn make_crew<L: Drop, T: Drop>(alloc: Global, counts: Counts) -> Result<Crew<L, 
     })
 }
 
-// Room for logs and links.
-fn make_gear<L: Drop, T: Drop>(alloc: Global, counts: Counts) -> Result<Gear<L, T>, AllocError>
-    ensures { IfOk result (HasRoomForGear counts.radios counts.servers counts.links) }
-{
-    Ok(Gear {
-        logs: Vec::with_capacity(alloc, counts.radios)?,
-        leap: None,
-        servers: Vec::with_capacity(alloc, counts.servers)?,
-        links: Vec::with_capacity(alloc, counts.links)?,
-    })
-}
-
 // Room for what is said of the workers.
 fn make_work(alloc: Global, counts: Counts) -> Result<Work, AllocError>
     ensures { IfOk result (HasRoomForWork counts.radios counts.servers counts.links) }
@@ -62,32 +49,6 @@ fn make_work(alloc: Global, counts: Counts) -> Result<Work, AllocError>
         servers: Vec::with_capacity(alloc, counts.servers)?,
         leap: None,
         links: Vec::with_capacity(alloc, counts.links)?,
-    })
-}
-
-// Room for the passes that the workers give back. A leap second file may have a feed too.
-fn make_passes(alloc: Global, counts: Counts) -> Result<Passes, AllocError>
-    requires { counts.radios + counts.servers < 2 ^ 63 }
-    ensures { IfOk result (HasRoomForPasses counts.radios counts.servers counts.links) }
-{
-    Ok(Passes {
-        feeds: Vec::with_capacity(alloc, counts.radios + counts.servers + 1)?,
-        readers: Vec::with_capacity(alloc, counts.links)?,
-    })
-}
-
-// Room for what the workers leave.
-fn make_collected<L: Drop, T: Drop>(
-    alloc: Global,
-    counts: Counts,
-) -> Result<Collected<L, T>, AllocError>
-    requires { counts.radios + counts.servers < 2 ^ 63 }
-    ensures { IfOk result (HasRoomToCollect counts.radios counts.servers counts.links) }
-{
-    Ok(Collected {
-        gear: make_gear(alloc, counts)?,
-        work: make_work(alloc, counts)?,
-        passes: make_passes(alloc, counts)?,
     })
 }
 
@@ -120,22 +81,21 @@ fn make_room<L: Drop, T: Drop>(
     counts: Counts,
     parts: CellParts,
 ) -> Result<Reserved<L, T>, AllocError>
-    requires { counts.radios + counts.servers < 2 ^ 63 }
     ensures room { IfOk result (HasRoom (gate_of station.now) counts.radios counts.servers counts.links) }
     ensures parts { IfOk result (λ room. room.parts ≡ parts) }
 {
     match (
         make_crew(alloc, counts),
         Vec::with_capacity(alloc, counts.links),
-        make_collected(alloc, counts),
+        make_work(alloc, counts),
         open_gates(alloc, station, counts.links),
     ) {
-        (Ok(crew), Ok(informed), Ok(collected), Ok(gates)) => Ok(Reserved {
+        (Ok(crew), Ok(informed), Ok(work), Ok(gates)) => Ok(Reserved {
             alloc,
             parts,
             crew,
             informed,
-            collected,
+            work,
             gates,
         }),
         _ => Err(AllocError),

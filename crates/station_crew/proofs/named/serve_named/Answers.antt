@@ -8,11 +8,13 @@ use Rattle.page_cell.specs.Claims.{IsTrueOf}
 use Rattle.page_cell.specs.Passes.{Known, KnownReader, claim_of}
 use Rattle.page_cell.specs.Views.{new_claim}
 use Rattle.station_values.specs.Station.{gate_of, kind_of_radio, kind_of_server, leap_feeds}
+use Rattle.station_crew.proofs.CollectingLaws.{both_length}
+use Rattle.station_crew.proofs.PassLaws.{feeds_length}
 use Rattle.station_crew.proofs.FeedLaws.{feeds_keep, leap_served, may_receive, may_notice, may_poll, radios_served, seen_all, servers_served}
 use Rattle.station_crew.proofs.LinkLaws.{links_served, readers_are, served_twice}
 use Rattle.feed_workers.proofs.ListLaws.{each_keeps, leap_feeds-length, length-is-some, pairs_keep, pairs_length}
-use Rattle.station_crew.specs.Crews.{HasRoomToCollect, IsNewReader}
-use Rattle.station_crew.specs.Jobs.{HasServed, HasServedAgain}
+use Rattle.station_crew.specs.Crews.{HasRoomForGear, HasRoomForWork, IsNewReader}
+use Rattle.station_crew.specs.Jobs.{HasServed, HasServedAgain, LeapRan}
 use Rattle.station_crew.specs.Collecting.{file_of, link_of, log_of, passes_of, serve_pass, server_link}
 use Rattle.feed_workers.specs.Lists.{Pairs}
 use Rattle.feed_workers.specs.Served.{LeapServed, LinksServed, RadiosServed, ServersServed, column_of, seen, service_of}
@@ -24,6 +26,13 @@ use Rattle.station_crew.proofs.named.serve_named.Goals as goal
 -- there is room where nothing was yet
 fits_left : (had jobs crew cap : ℕ) → had ≡ 0 → jobs ≡ crew → crew ≤ cap → had + jobs ≤ cap
 fits_left had jobs crew cap none count le = omega arith
+
+-- the list of passes has room again for as many as it had
+reader_room : (had cap jobs room : ℕ) → had ≤ cap → had ≡ jobs → room ≡ cap → jobs ≤ room
+reader_room had cap jobs room fit count same = omega arith
+
+feed_room : (radios pollers leap r p had cap room : ℕ) → had ≤ cap → had ≡ r + p + leap → radios ≡ r → pollers ≡ p → (l : ℕ) → l ≡ leap → room ≡ cap → radios + pollers + l ≤ room
+feed_room radios pollers leap r p had cap room fit count one two l three same = omega arith
 
 few_of : (n m : ℕ) → n ≡ m → m ≤ 8 → n ≤ 8
 few_of n m same le = omega arith
@@ -79,8 +88,8 @@ run_first-requires-clause-responders g c κs within =
     let readers = c.assign_crew-crew.ensures.readers ∙ c.in-Ok.ensures.passes.1 in
     record { all = readers_are table c.assign_crew-crew.result.responders.items (subst (All (IsNewReader table)) (sym readers) c.requires.readers) }
 
-pub collect_feeds-responders-requires-after_bounds : goal.collect_feeds-responders-requires-after_bounds
-collect_feeds-responders-requires-after_bounds g c κs within =
+pub collect_feeds-responders-requires-clause-gear : goal.collect_feeds-responders-requires-clause-gear
+collect_feeds-responders-requires-clause-gear g c κs within =
     let now = c.run_first.new.crew in
     let m = c.assign_crew-crew.ensures.assigned in
     let crew = c.assign_crew-crew.result in
@@ -88,9 +97,32 @@ collect_feeds-responders-requires-after_bounds g c κs within =
     let radios : vec_len gear.logs ≡ vec_len now.radios = gear.logs.ok.0 ∙ sym (ap length m.logs) ∙ length-map crew.radios.items log_of ∙ sym crew.radios.ok.0 ∙ sym c.run_first.ensures.counts.0 in
     let pollers : vec_len gear.servers ≡ vec_len now.pollers = gear.servers.ok.0 ∙ sym (ap length m.servers) ∙ length-map crew.pollers.items server_link ∙ sym crew.pollers.ok.0 ∙ sym c.run_first.ensures.counts.1 in
     let responders : vec_len gear.links ≡ vec_len now.responders = gear.links.ok.0 ∙ sym (ap length m.links) ∙ length-map crew.responders.items link_of ∙ sym crew.responders.ok.0 ∙ sym c.run_first.ensures.counts.2 in
-    subst (λ n. HasRoomToCollect n (vec_len now.pollers) (vec_len now.responders) c.args.room.collected) radios
-    (subst (λ n. HasRoomToCollect (vec_len gear.logs) n (vec_len now.responders) c.args.room.collected) pollers
-    (subst (λ n. HasRoomToCollect (vec_len gear.logs) (vec_len gear.servers) n c.args.room.collected) responders c.requires.room.collected))
+    subst (λ n. HasRoomForGear n (vec_len now.pollers) (vec_len now.responders) c.assign_crew-crew.new.equipment.gear) radios
+    (subst (λ n. HasRoomForGear (vec_len gear.logs) n (vec_len now.responders) c.assign_crew-crew.new.equipment.gear) pollers
+    (subst (λ n. HasRoomForGear (vec_len gear.logs) (vec_len gear.servers) n c.assign_crew-crew.new.equipment.gear) responders c.assign_crew-crew.ensures.emptied))
+
+pub collect_feeds-responders-requires-clause-work : goal.collect_feeds-responders-requires-clause-work
+collect_feeds-responders-requires-clause-work g c κs within =
+    let now = c.run_first.new.crew in
+    let m = c.assign_crew-crew.ensures.assigned in
+    let crew = c.assign_crew-crew.result in
+    let gear = c.args.equipment.gear in
+    let radios : vec_len gear.logs ≡ vec_len now.radios = gear.logs.ok.0 ∙ sym (ap length m.logs) ∙ length-map crew.radios.items log_of ∙ sym crew.radios.ok.0 ∙ sym c.run_first.ensures.counts.0 in
+    let pollers : vec_len gear.servers ≡ vec_len now.pollers = gear.servers.ok.0 ∙ sym (ap length m.servers) ∙ length-map crew.pollers.items server_link ∙ sym crew.pollers.ok.0 ∙ sym c.run_first.ensures.counts.1 in
+    let responders : vec_len gear.links ≡ vec_len now.responders = gear.links.ok.0 ∙ sym (ap length m.links) ∙ length-map crew.responders.items link_of ∙ sym crew.responders.ok.0 ∙ sym c.run_first.ensures.counts.2 in
+    subst (λ n. HasRoomForWork n (vec_len now.pollers) (vec_len now.responders) c.args.room.work) radios
+    (subst (λ n. HasRoomForWork (vec_len gear.logs) n (vec_len now.responders) c.args.room.work) pollers
+    (subst (λ n. HasRoomForWork (vec_len gear.logs) (vec_len gear.servers) n c.args.room.work) responders c.requires.room.work))
+
+pub collect_feeds-responders-requires-clause-room : goal.collect_feeds-responders-requires-clause-room
+collect_feeds-responders-requires-clause-room g c κs within =
+    let now = c.run_first.new.crew in
+    let crew = c.assign_crew-crew.result in
+    let given = c.in-Ok.parts.feeds in
+    feed_room _ _ _ _ _ (vec_len given) (vec_capacity given) _ given.ok.1
+    (given.ok.0 ∙ sym (ap length c.assign_crew-crew.ensures.feeds) ∙ feeds_length crew.radios.items crew.pollers.items crew.leap)
+    (c.run_first.ensures.counts.0 ∙ crew.radios.ok.0) (c.run_first.ensures.counts.1 ∙ crew.pollers.ok.0)
+    _ (both_length (LeapRan g.L.Source.state g.L.Source.opening g.N.HubName.limit) crew.leap now.leap c.run_first.ensures.leap) c.assign_crew-crew.ensures.feeds_room
 
 pub inform_responders-requires-clause-feeds : goal.inform_responders-requires-clause-feeds
 inform_responders-requires-clause-feeds g c κs within =
@@ -101,8 +133,8 @@ inform_responders-requires-clause-feeds g c κs within =
     let is = c.assign_crew-crew.ensures.feeds ∙ c.in-Ok.ensures.passes.0 in
     let claims = ap (λ l. map (λ (f : Known). claim_of f.view) l) is ∙ c.requires.claims in
     let tables = subst (All (λ (f : Known). f.table ≡ N.table)) (sym is) c.requires.feeds in
-    subst (λ t. All (λ (f : Known). f.table ≡ t) c.collect_feeds-responders.result.1.passes.feeds.items) (sym c.cell.ensures)
-    (subst (All (λ (f : Known). f.table ≡ N.table)) (sym c.collect_feeds-responders.ensures.feeds.feeds)
+    subst (λ t. All (λ (f : Known). f.table ≡ t) c.collect_feeds-responders.new.feeds.items) (sym c.cell.ensures)
+    (subst (All (λ (f : Known). f.table ≡ N.table)) (sym c.collect_feeds-responders.ensures.feeds.feeds_are)
     (feeds_keep N.table (length N.settings.sources) crew.radios.items crew.pollers.items crew.leap claims tables _ g.L.Source.state g.L.Source.opening g.T.Link.state g.T.Link.opening N.limit now.radios.items now.pollers.items now.leap e.radios (sym now.radios.ok.0 ∙ e.counts.0 ∙ crew.radios.ok.0) e.pollers (sym now.pollers.ok.0 ∙ e.counts.1 ∙ crew.pollers.ok.0) e.leap))
 
 pub inform_responders-requires-clause-readers : goal.inform_responders-requires-clause-readers
@@ -114,14 +146,14 @@ inform_responders-requires-clause-readers g c κs within =
     let same : length ys ≡ length xs = sym c.run_first.new.crew.responders.ok.0 ∙ c.run_first.ensures.counts.2 ∙ c.assign_crew-crew.result.responders.ok.0 in
     let first = each_keeps (λ x. x.responder.pass.table ≡ table) (HasServed g.T.Link.state g.T.Link.opening c.args.orders.budget.during) (λ a b r h. r.same.table ∙ h) xs ys c.run_first.ensures.responders same
     (readers_are table xs (subst (All (IsNewReader table)) (sym readers) c.requires.readers)) in
-    subst (λ t. All (λ x. x.responder.pass.table ≡ t) c.collect_feeds-responders.result.0.items) (sym c.cell.ensures)
+    subst (λ t. All (λ x. x.responder.pass.table ≡ t) c.collect_feeds-responders.result.items) (sym c.cell.ensures)
     (subst (λ v. All (λ x. x.responder.pass.table ≡ table) v.items) (sym c.collect_feeds-responders.ensures.responders) first)
 
 pub inform_responders-requires-clause-few : goal.inform_responders-requires-clause-few
 inform_responders-requires-clause-few g c κs within =
     let crew = c.assign_crew-crew.result in
     let gear = c.args.equipment.gear in
-    let count : vec_len c.collect_feeds-responders.result.0 ≡ vec_len gear.links =
+    let count : vec_len c.collect_feeds-responders.result ≡ vec_len gear.links =
     ap vec_len c.collect_feeds-responders.ensures.responders ∙ c.run_first.ensures.counts.2 ∙ crew.responders.ok.0 ∙ sym (length-map crew.responders.items link_of) ∙ ap length c.assign_crew-crew.ensures.assigned.links ∙ sym gear.links.ok.0 in
     subst (λ n. n ≤ 8) (sym count) (few_of (vec_len c.args.equipment.gear.links) (length c.args.station.now.links) c.requires.gear.links c.requires.station.ports)
 
@@ -129,7 +161,7 @@ pub inform_responders-requires-clause-room : goal.inform_responders-requires-cla
 inform_responders-requires-clause-room g c κs within =
     let crew = c.assign_crew-crew.result in
     let gear = c.args.equipment.gear in
-    let count : vec_len c.collect_feeds-responders.result.0 ≡ vec_len gear.links =
+    let count : vec_len c.collect_feeds-responders.result ≡ vec_len gear.links =
     ap vec_len c.collect_feeds-responders.ensures.responders ∙ c.run_first.ensures.counts.2 ∙ crew.responders.ok.0 ∙ sym (length-map crew.responders.items link_of) ∙ ap length c.assign_crew-crew.ensures.assigned.links ∙ sym gear.links.ok.0 in
     subst (λ n. n ≤ vec_capacity c.args.room.informed) (sym count) c.requires.room.informed
 
@@ -142,41 +174,44 @@ run_second-requires-after_bounds g c κs within =
     let same : length ys ≡ length xs = sym c.run_first.new.crew.responders.ok.0 ∙ c.run_first.ensures.counts.2 ∙ c.assign_crew-crew.result.responders.ok.0 in
     let first = each_keeps (λ x. x.responder.pass.table ≡ table) (HasServed g.T.Link.state g.T.Link.opening c.args.orders.budget.during) (λ a b r h. r.same.table ∙ h) xs ys c.run_first.ensures.responders same
     (readers_are table xs (subst (All (IsNewReader table)) (sym readers) c.requires.readers)) in
-    pairs_keep (λ x. x.responder.pass.table ≡ table) (λ x. x.responder.pass.table ≡ table) (WasInformed c.collect_feeds-responders.result.1.passes.feeds.items) (λ x y t h. t.learnt.table ∙ h) c.collect_feeds-responders.result.0.items c.inform_responders.new.informed.items c.inform_responders.ensures.informed
+    pairs_keep (λ x. x.responder.pass.table ≡ table) (λ x. x.responder.pass.table ≡ table) (WasInformed c.collect_feeds-responders.new.feeds.items) (λ x y t h. t.learnt.table ∙ h) c.collect_feeds-responders.result.items c.inform_responders.new.informed.items c.inform_responders.ensures.informed
     (subst (λ v. All (λ x. x.responder.pass.table ≡ table) v.items) (sym c.collect_feeds-responders.ensures.responders) first)
 
 pub collect_responders-requires-clause-links : goal.collect_responders-requires-clause-links
 collect_responders-requires-clause-links g c κs within =
-    let room = c.collect_feeds-responders.ensures.room in
-    let had = c.collect_feeds-responders.result.1.gear.links in
-    let given = c.collect_feeds-responders.result.0 in
+    let room = c.collect_feeds-responders.ensures.served in
+    let had = c.collect_feeds-responders.new.gear.links in
+    let given = c.collect_feeds-responders.result in
     let informed = c.inform_responders.new.informed in
     let now = c.run_first.new.crew in
-    let n = pairs_length (WasInformed c.collect_feeds-responders.result.1.passes.feeds.items) given.items informed.items c.inform_responders.ensures.informed in
+    let n = pairs_length (WasInformed c.collect_feeds-responders.new.feeds.items) given.items informed.items c.inform_responders.ensures.informed in
     let count = c.run_second.ensures.count ∙ informed.ok.0 ∙ n ∙ sym given.ok.0 ∙ ap vec_len c.collect_feeds-responders.ensures.responders in
     fits_left (vec_len had) (vec_len c.run_second.new.jobs) (vec_len now.responders) (vec_capacity had) (had.ok.0 ∙ ap length room.no_links) count room.links
 
 pub collect_responders-requires-clause-works : goal.collect_responders-requires-clause-works
 collect_responders-requires-clause-works g c κs within =
-    let room = c.collect_feeds-responders.ensures.room in
-    let had = c.collect_feeds-responders.result.1.work.links in
-    let given = c.collect_feeds-responders.result.0 in
+    let room = c.collect_feeds-responders.ensures.served in
+    let had = c.collect_feeds-responders.new.work.links in
+    let given = c.collect_feeds-responders.result in
     let informed = c.inform_responders.new.informed in
     let now = c.run_first.new.crew in
-    let n = pairs_length (WasInformed c.collect_feeds-responders.result.1.passes.feeds.items) given.items informed.items c.inform_responders.ensures.informed in
+    let n = pairs_length (WasInformed c.collect_feeds-responders.new.feeds.items) given.items informed.items c.inform_responders.ensures.informed in
     let count = c.run_second.ensures.count ∙ informed.ok.0 ∙ n ∙ sym given.ok.0 ∙ ap vec_len c.collect_feeds-responders.ensures.responders in
     fits_left (vec_len had) (vec_len c.run_second.new.jobs) (vec_len now.responders) (vec_capacity had) (had.ok.0 ∙ ap length room.no_works) count room.works
 
 pub collect_responders-requires-clause-readers : goal.collect_responders-requires-clause-readers
 collect_responders-requires-clause-readers g c κs within =
-    let room = c.collect_feeds-responders.ensures.room in
-    let had = c.collect_feeds-responders.result.1.passes.readers in
-    let given = c.collect_feeds-responders.result.0 in
+    let given = c.in-Ok.parts.readers in
+    let had = c.assign_crew-crew.new.readers in
+    let crew = c.assign_crew-crew.result in
     let informed = c.inform_responders.new.informed in
     let now = c.run_first.new.crew in
-    let n = pairs_length (WasInformed c.collect_feeds-responders.result.1.passes.feeds.items) given.items informed.items c.inform_responders.ensures.informed in
-    let count = c.run_second.ensures.count ∙ informed.ok.0 ∙ n ∙ sym given.ok.0 ∙ ap vec_len c.collect_feeds-responders.ensures.responders in
-    fits_left (vec_len had) (vec_len c.run_second.new.jobs) (vec_len now.responders) (vec_capacity had) (had.ok.0 ∙ ap length room.no_readers) count room.readers
+    let n = pairs_length (WasInformed c.collect_feeds-responders.new.feeds.items) c.collect_feeds-responders.result.items informed.items c.inform_responders.ensures.informed in
+    let count = c.run_second.ensures.count ∙ informed.ok.0 ∙ n ∙ sym c.collect_feeds-responders.result.ok.0 ∙ ap vec_len c.collect_feeds-responders.ensures.responders in
+    let fit = reader_room (vec_len given) (vec_capacity given) (vec_len now.responders) (vec_capacity had) given.ok.1
+    (given.ok.0 ∙ sym (ap length c.assign_crew-crew.ensures.readers) ∙ length-map crew.responders.items serve_pass ∙ sym crew.responders.ok.0 ∙ sym c.run_first.ensures.counts.2)
+    c.assign_crew-crew.ensures.readers_room in
+    fits_left (vec_len had) (vec_len c.run_second.new.jobs) (vec_len now.responders) (vec_capacity had) (had.ok.0 ∙ ap length c.assign_crew-crew.ensures.no_readers) count fit
 
 pub close-requires-clause-feeds : goal.close-requires-clause-feeds
 close-requires-clause-feeds g c =
@@ -187,7 +222,7 @@ close-requires-clause-feeds g c =
     let is = c.assign_crew-crew.ensures.feeds ∙ c.in-Ok.ensures.passes.0 in
     let claims = ap (λ l. map (λ (f : Known). claim_of f.view) l) is ∙ c.requires.claims in
     let tables = subst (All (λ (f : Known). f.table ≡ N.table)) (sym is) c.requires.feeds in
-    let feeds = c.inform_responders.ensures.same ∙ c.collect_feeds-responders.ensures.feeds.feeds in
+    let feeds = c.inform_responders.ensures.same ∙ c.collect_feeds-responders.ensures.feeds.feeds_are in
     subst (All (λ (f : Known). f.table ≡ N.table)) (sym feeds)
     (feeds_keep N.table (length N.settings.sources) crew.radios.items crew.pollers.items crew.leap claims tables _ g.L.Source.state g.L.Source.opening g.T.Link.state g.T.Link.opening N.limit now.radios.items now.pollers.items now.leap e.radios (sym now.radios.ok.0 ∙ e.counts.0 ∙ crew.radios.ok.0) e.pollers (sym now.pollers.ok.0 ∙ e.counts.1 ∙ crew.pollers.ok.0) e.leap)
 
@@ -204,10 +239,10 @@ close-requires-clause-readers g c =
     let again : length ws ≡ length zs = sym c.run_second.new.jobs.ok.0 ∙ c.run_second.ensures.count ∙ c.inform_responders.new.informed.ok.0 in
     let first = each_keeps (λ x. x.responder.pass.table ≡ table) (HasServed g.T.Link.state g.T.Link.opening c.args.orders.budget.during) (λ a b r h. r.same.table ∙ h) xs ys c.run_first.ensures.responders same
     (readers_are table xs (subst (All (IsNewReader table)) (sym readers) c.requires.readers)) in
-    let informed = pairs_keep (λ x. x.responder.pass.table ≡ table) (λ x. x.responder.pass.table ≡ table) (WasInformed c.collect_feeds-responders.result.1.passes.feeds.items) (λ x y t h. t.learnt.table ∙ h) c.collect_feeds-responders.result.0.items zs c.inform_responders.ensures.informed
+    let informed = pairs_keep (λ x. x.responder.pass.table ≡ table) (λ x. x.responder.pass.table ≡ table) (WasInformed c.collect_feeds-responders.new.feeds.items) (λ x y t h. t.learnt.table ∙ h) c.collect_feeds-responders.result.items zs c.inform_responders.ensures.informed
     (subst (λ v. All (λ x. x.responder.pass.table ≡ table) v.items) (sym c.collect_feeds-responders.ensures.responders) first) in
     let second = each_keeps (λ x. x.responder.pass.table ≡ table) (HasServedAgain g.T.Link.state g.T.Link.opening c.args.orders.budget.after) (λ a b r h. r.same.table ∙ h) zs ws c.run_second.ensures.served again informed in
-    subst (All P) (sym (c.collect_responders.ensures.readers ∙ ap (λ l. l ++ map serve_pass ws) c.collect_feeds-responders.ensures.room.no_readers)) (All-map P serve_pass ws second)
+    subst (All P) (sym (c.collect_responders.ensures.readers ∙ ap (λ l. l ++ map serve_pass ws) c.assign_crew-crew.ensures.no_readers)) (All-map P serve_pass ws second)
 
 pub returns-clause-journal : goal.returns-clause-journal
 returns-clause-journal g c = record {
@@ -224,13 +259,13 @@ returns-clause-radios g c =
     let crew = c.assign_crew-crew.result in
     let now = c.run_first.new.crew in
     let e = c.run_first.ensures in
-    let collected = c.collect_feeds-responders.result.1 in
+    let collected = c.collect_feeds-responders.new in
     let f = c.collect_feeds-responders.ensures.feeds in
     let j = c.close.result.entries in
     let of = c.args.station.now in
     let is = c.assign_crew-crew.ensures.feeds ∙ c.in-Ok.ensures.passes.0 in
     let claims = ap (λ l. map (λ (f : Known). claim_of f.view) l) is ∙ c.requires.claims in
-    let feeds = c.inform_responders.ensures.same ∙ f.feeds in
+    let feeds = c.inform_responders.ensures.same ∙ f.feeds_are in
     let all = subst (All (λ (f : Known). IsTrueOf j (claim_of f.view))) feeds c.close.ensures.feeds in
     let informed = radios_served g.L.Source.state g.L.Source.opening g.T.Link.state g.T.Link.opening N.limit (length N.settings.sources) j crew.radios.items now.radios.items crew.pollers.items now.pollers.items crew.leap now.leap claims e.radios (sym now.radios.ok.0 ∙ e.counts.0 ∙ crew.radios.ok.0) e.pollers (sym now.pollers.ok.0 ∙ e.counts.1 ∙ crew.pollers.ok.0) e.leap all _ of.radios c.args.equipment.receivers.items c.requires.blank m.receivers_are c.close.ensures.within in
     subst (λ n. RadiosServed (seen g.L.Source.state g.L.Source.opening) of.radios (column_of 0 n j) c.args.equipment.gear.logs.items collected.gear.logs.items collected.work.radios.items) (sym c.requires.limit.0)
@@ -245,13 +280,13 @@ returns-clause-servers g c =
     let crew = c.assign_crew-crew.result in
     let now = c.run_first.new.crew in
     let e = c.run_first.ensures in
-    let collected = c.collect_feeds-responders.result.1 in
+    let collected = c.collect_feeds-responders.new in
     let f = c.collect_feeds-responders.ensures.feeds in
     let j = c.close.result.entries in
     let of = c.args.station.now in
     let is = c.assign_crew-crew.ensures.feeds ∙ c.in-Ok.ensures.passes.0 in
     let claims = ap (λ l. map (λ (f : Known). claim_of f.view) l) is ∙ c.requires.claims in
-    let feeds = c.inform_responders.ensures.same ∙ f.feeds in
+    let feeds = c.inform_responders.ensures.same ∙ f.feeds_are in
     let all = subst (All (λ (f : Known). IsTrueOf j (claim_of f.view))) feeds c.close.ensures.feeds in
     let one : vec_len c.args.equipment.gear.logs ≡ length c.args.equipment.gear.logs.items = c.args.equipment.gear.logs.ok.0 in
     let first : length crew.radios.items ≡ length of.radios = sym (length-map crew.radios.items log_of) ∙ ap length m.logs ∙ sym one ∙ c.requires.gear.logs in
@@ -269,13 +304,13 @@ returns-clause-leap g c =
     let crew = c.assign_crew-crew.result in
     let now = c.run_first.new.crew in
     let e = c.run_first.ensures in
-    let collected = c.collect_feeds-responders.result.1 in
+    let collected = c.collect_feeds-responders.new in
     let f = c.collect_feeds-responders.ensures.feeds in
     let j = c.close.result.entries in
     let of = c.args.station.now in
     let is = c.assign_crew-crew.ensures.feeds ∙ c.in-Ok.ensures.passes.0 in
     let claims = ap (λ l. map (λ (f : Known). claim_of f.view) l) is ∙ c.requires.claims in
-    let feeds = c.inform_responders.ensures.same ∙ f.feeds in
+    let feeds = c.inform_responders.ensures.same ∙ f.feeds_are in
     let all = subst (All (λ (f : Known). IsTrueOf j (claim_of f.view))) feeds c.close.ensures.feeds in
     let start = of.top.start in
     let one : vec_len c.args.equipment.gear.logs ≡ length c.args.equipment.gear.logs.items = c.args.equipment.gear.logs.ok.0 in
@@ -297,13 +332,13 @@ returns-clause-links g c =
     let crew = c.assign_crew-crew.result in
     let now = c.run_first.new.crew in
     let e = c.run_first.ensures in
-    let collected = c.collect_feeds-responders.result.1 in
+    let collected = c.collect_feeds-responders.new in
     let f = c.collect_feeds-responders.ensures.feeds in
     let j = c.close.result.entries in
     let of = c.args.station.now in
     let is = c.assign_crew-crew.ensures.feeds ∙ c.in-Ok.ensures.passes.0 in
     let claims = ap (λ l. map (λ (f : Known). claim_of f.view) l) is ∙ c.requires.claims in
-    let feeds = c.inform_responders.ensures.same ∙ f.feeds in
+    let feeds = c.inform_responders.ensures.same ∙ f.feeds_are in
     let all = subst (All (λ (f : Known). IsTrueOf j (claim_of f.view))) feeds c.close.ensures.feeds in
     let valid = subst (λ (s : SettingsFields). All (IsKept (length s.sources)) j) c.close.ensures.settings c.close.ensures.valid in
     let xs = crew.responders.items in
@@ -313,16 +348,16 @@ returns-clause-links g c =
     let same : length ys ≡ length xs = sym c.run_first.new.crew.responders.ok.0 ∙ c.run_first.ensures.counts.2 ∙ c.assign_crew-crew.result.responders.ok.0 in
     let again : length ws ≡ length zs = sym c.run_second.new.jobs.ok.0 ∙ c.run_second.ensures.count ∙ c.inform_responders.new.informed.ok.0 in
     let seen_by = passes_of now.radios.items now.pollers.items now.leap in
-    let informed_to = subst (λ l. Pairs (WasInformed l) ys zs) f.feeds (subst (λ v. Pairs (WasInformed collected.passes.feeds.items) v.items zs) c.collect_feeds-responders.ensures.responders c.inform_responders.ensures.informed) in
+    let informed_to = subst (λ l. Pairs (WasInformed l) ys zs) f.feeds_are (subst (λ v. Pairs (WasInformed collected.feeds.items) v.items zs) c.collect_feeds-responders.ensures.responders c.inform_responders.ensures.informed) in
     let served = served_twice g.T.Link.state g.T.Link.opening c.args.orders.budget seen_by xs ys zs ws e.responders same informed_to c.run_second.ensures.served in
     let count : length ws ≡ length xs = again ∙ pairs_length (WasInformed seen_by) ys zs informed_to ∙ same in
-    let readers = c.collect_responders.ensures.readers ∙ ap (λ l. l ++ map serve_pass ws) c.collect_feeds-responders.ensures.room.no_readers in
+    let readers = c.collect_responders.ensures.readers ∙ ap (λ l. l ++ map serve_pass ws) c.assign_crew-crew.ensures.no_readers in
     let read = subst (All (λ (r : KnownReader). HasRead N.settings j r.view)) readers (subst (λ (s : SettingsFields). All (λ (r : KnownReader). HasRead s j r.view) c.collect_responders.new.readers.items) c.close.ensures.settings c.close.ensures.readers) in
     let new = subst (All (IsNewReader N.table)) (sym (c.assign_crew-crew.ensures.readers ∙ c.in-Ok.ensures.passes.1)) c.requires.readers in
     let bound : (x : KnownReader) → HasSeenAll seen_by x → length j ≤ x.view.seen = λ x seen. seen_all g.L.Source.state g.L.Source.opening g.T.Link.state g.T.Link.opening N.limit (length N.settings.sources) j crew.radios.items now.radios.items crew.pollers.items now.pollers.items crew.leap now.leap claims e.radios (sym now.radios.ok.0 ∙ e.counts.0 ∙ crew.radios.ok.0) e.pollers (sym now.pollers.ok.0 ∙ e.counts.1 ∙ crew.pollers.ok.0) e.leap all valid x.view.seen seen in
     let informed = links_served g.T.Link.state g.T.Link.opening of.keys (gate_of of) N.settings j c.args.orders.budget N.table seen_by xs ws served count new m.unserved m.keyed m.gated read bound in
-    let links = c.collect_responders.ensures.links ∙ ap (λ l. l ++ map link_of ws) c.collect_feeds-responders.ensures.room.no_links in
-    let works = c.collect_responders.ensures.works ∙ ap (λ l. l ++ map (λ j. j.work) ws) c.collect_feeds-responders.ensures.room.no_works in
+    let links = c.collect_responders.ensures.links ∙ ap (λ l. l ++ map link_of ws) c.collect_feeds-responders.ensures.served.no_links in
+    let works = c.collect_responders.ensures.works ∙ ap (λ l. l ++ map (λ j. j.work) ws) c.collect_feeds-responders.ensures.served.no_works in
     let service = record (service_of of j c.args.orders.budget) { settings = N.settings } in
     subst (λ (s : SettingsFields). LinksServed (seen g.T.Link.state g.T.Link.opening) (record service { settings = s }) c.args.equipment.gear.links.items c.collect_responders.new.links.items c.collect_responders.new.works.items) (sym c.requires.settings.1)
     (subst (λ l. LinksServed (seen g.T.Link.state g.T.Link.opening) service l c.collect_responders.new.links.items c.collect_responders.new.works.items) m.links

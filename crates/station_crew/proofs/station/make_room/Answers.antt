@@ -9,7 +9,7 @@ returns-in-Ok-Ok-Ok-Ok-clause-room g c =
       crew = made.ensures;
       none_informed = made.ensures'.items;
       informed = subst (λ n. c.args.counts.links ≤ n) (sym made.ensures'.exact) (le_refl c.args.counts.links);
-      collected = made.ensures'';
+      work = made.ensures'';
       gates = made.ensures'''.count;
       alike = made.ensures'''.alike;
     }
