@@ -1,12 +1,11 @@
 -- The lines of a journal: each text says one, and they are short.
-use Rattle.std.proofs.Common.{◌≡◌, ℕ, ◌+◌, ◌<◌, Bool, true, false, cond, nat_eq, Option, None, Some, Ok, Err, List, [], ◌∷◌, ◌++◌, length, codes, append_assoc, refl, ap, sym, ◌∙◌, subst, arith}
+use Rattle.std.proofs.Common.{◌≡◌, ℕ, ◌+◌, ◌<◌, Bool, true, false, Option, None, Some, List, [], ◌∷◌, ◌++◌, length, take, codes, append_assoc, refl, ap, sym, ◌∙◌, subst, arith}
 use Rattle.std.proofs.lemmas.List.{append-nil, length-map, map-append}
-use Rattle.std.proofs.lemmas.Bool.{eqb-true}
 use Rattle.std.proofs.lemmas.List.FromFn.{length-enumerate_from}
 use Rattle.std.specs.List.{enumerate_from, flat_map}
 use Rattle.clock_page.specs.Page.{PageFields}
 use Rattle.journal_entry.specs.Valid.{IsValid}
-use Rattle.journal_entry.specs.Lines.{entry_of, form_of}
+use Rattle.journal_entry.specs.Lines.{IsLineText, entry_of, form_of}
 use Rattle.journal_entry.specs.declared.line.Form.{Form}
 use Rattle.system_fold.specs.KeptFold.{FoldFields, StandsForJournal}
 use Rattle.system_fold.specs.Page.{page_of}
@@ -19,49 +18,17 @@ use Rattle.journal_entry.proofs.SameLaws.{same_line}
 use Rattle.system_fold.specs.Numbered.{numbered, numbered_after, numbered_next}
 use Rattle.station_values.specs.Station.{StationFields, settings_of}
 use Rattle.system_fold.specs.Settings.{SettingsFields}
-use Rattle.file_commands.specs.JournalTaking.{journal_way, journal_taker}
+use Rattle.line_files.proofs.LineTakingLaws.{limit_within}
 use Rattle.line_files.specs.LineTaking.{LineTexts, TakesLine}
-use Rattle.file_commands.specs.declared.migrate.mover.JournalMover.{JournalMover}
-use Rattle.file_commands.specs.Moving.{HasMoved, IsFormOf, IsMoving, MoverFields, MovesLine, MovesText}
+use Rattle.file_commands.specs.Moving.{HasMoved, IsFormOf, IsMoving, MoverFields, MovesLine, journal_way}
 use Rattle.file_commands.specs.Migrating.{HasFormOf, StatesNumber, entries_of, journal_line_limit, most_lines, says_line}
 use Rattle.line_files.specs.Texts.{journal_text}
-
-abbrev length_limit : Bool → ℕ
-length_limit same = cond same 1 300
 
 pub one_line : (settings : SettingsFields) (before : List JournalLine) (text : List ℕ) (x y : JournalLine) → says_line settings before text x → says_line settings before text y → x ≡ y
 one_line settings before text x y h k = same_line text x y h.0 k.0
 
-limit_by : (n : ℕ) (same : Bool) → nat_eq n most_lines ≡ same → n < most_lines → length_limit same ≡ 300
-limit_by n true e less = (let is = eqb-true n most_lines e in absurd (omega arith))
-limit_by n false e less = refl
-
-pub limit_within : (n : ℕ) → n < most_lines → journal_line_limit n ≡ 300
-limit_within n less = limit_by n (nat_eq n most_lines) refl less
-
-pub limit_after : (n : ℕ) → n ≡ most_lines → journal_line_limit n ≡ 1
-limit_after n e = ap journal_line_limit e
-
-pub some_room : (n : ℕ) → 0 < journal_line_limit n
-some_room n = room_by (nat_eq n most_lines)
-  where
-    room_by : (same : Bool) → 0 < length_limit same
-    room_by true = omega arith
-    room_by false = omega arith
-
 pub short_line : (settings : SettingsFields) (before : List JournalLine) (text : List ℕ) (x : JournalLine) → says_line settings before text x → length text < journal_line_limit (length before)
-short_line settings before text x h = (let short = short_text text x h.0 in let limit = limit_within (length before) h.1.room in omega arith)
-
--- after as many lines as there may be none says anything
-pub none_later : (of : StationFields) (before : List JournalLine) (text : List ℕ) (x : JournalLine) → length before ≡ most_lines → says_line (settings_of of) before text x → ⊥
-none_later of before text x full h = (let room = h.1.room in absurd (omega arith))
-
--- what was moved stays so where a bad line is met
-pub moved_ends : (of : StationFields) (m : MoverFields) (lines : List JournalLine) (n : ℕ) → HasMoved m (settings_of of) lines None → HasMoved m (settings_of of) lines (Some n)
-moved_ends of m lines n h = record {
-  page = h.page;
-  going = λ none. absurd (let e : ◌≡◌ {A = Option ℕ} (Some n) None = none in cc);
-}
+short_line settings before text x h = (let short = short_text text x h.0 in let limit = limit_within 300 (Some most_lines) (length before) h.1.room in omega arith)
 
 -- one line more of a journal in the second form
 numbered_push : (settings : SettingsFields) (before entries : List Entry) (e : Entry) →
@@ -83,15 +50,12 @@ journal_more settings lines line =
     ∙ ap (λ (ns : List NumberedEntry). flat_map (λ n. numbered_text n ++ codes "\n") ns) (numbered_push settings [] (entries_of lines) (entry_of line))
     ∙ lines_push (numbered settings (entries_of lines)) (numbered_next settings (entries_of lines) (entry_of line))
 
--- a text that was moved is the next line
-pub moved_line : (of : StationFields) (count : ℕ) (m : JournalMover) (before : List JournalLine) (line : LineTexts) (size : ℕ) → m.lines ≡ count + 1 →
-    MovesText m.mover (settings_of of) before line m.lines (Some size) → TakesLine (journal_way of) count (journal_taker m) before line (Ok (Some size))
-moved_line of count m before line size one h =
-    (one, (h.0, h.1, h.2, journal_more (settings_of of) before h.0 ∙ ap (λ (t : List ℕ). journal_text (settings_of of) (entries_of before) ++ t) (sym h.3)))
-
-pub refused_line : (of : StationFields) (count : ℕ) (m : JournalMover) (before : List JournalLine) (line : LineTexts) → m.lines ≡ count + 1 →
-    MovesText m.mover (settings_of of) before line m.lines None → TakesLine (journal_way of) count (journal_taker m) before line (Err (record { line = m.lines }))
-refused_line of count m before line one h = (one, h.0, h.1)
+-- a text that says a line which was moved, or which may not stand there, or none
+pub takes_moved : (of : StationFields) (before : List JournalLine) (now : MoverFields) (number size : ℕ) (texts : LineTexts) (line : JournalLine) (n : NumberedEntry) → IsLineText texts.text line →
+    MovesLine now (settings_of of) before line number (Some n) → take size texts.given ≡ numbered_text n ++ codes "\n" → TakesLine (journal_way of) now before texts (Some size)
+takes_moved of before now number size texts line n says moves given =
+    let text = ap (λ (m : NumberedEntry). numbered_text m ++ codes "\n") moves.2 in
+    (line, (says, moves.0), moves.1, journal_more (settings_of of) before line ∙ ap (λ (t : List ℕ). journal_text (settings_of of) (entries_of before) ++ t) (sym (given ∙ text)))
 
 -- ---- one line more of a mover
 

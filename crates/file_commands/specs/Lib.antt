@@ -2,4 +2,3 @@
 pub mod Decoding
 pub mod Migrating
 pub mod Moving
-pub mod JournalTaking

@@ -1,8 +1,7 @@
 -- Scaffolding: the lines that a converter of journals has taken, and their entries.
-use Rattle.std.specs.Prelude.{◌≡◌, ℕ, Option, None, Some, List, [], ◌∷◌, ◌++◌, length, take, codes}
+use Rattle.std.specs.Prelude.{◌≡◌, ℕ, Option, None, Some, List, [], ◌∷◌, ◌++◌, length}
 use Rattle.clock_page.specs.Page.{PageFields}
 use Rattle.journal_entry.specs.Lines.{entry_of, form_of}
-use Rattle.journal_entry.specs.Numbers.{numbered_text}
 use Rattle.journal_entry.specs.declared.entry.Entry.{Entry}
 use Rattle.journal_entry.specs.declared.line.Form.{Form}
 use Rattle.journal_entry.specs.declared.line.JournalLine.{JournalLine}
@@ -11,8 +10,9 @@ use Rattle.system_fold.specs.KeptFold.{FoldFields, StandsForJournal}
 use Rattle.system_fold.specs.Numbered.{numbered_next}
 use Rattle.system_fold.specs.Page.{page_of}
 use Rattle.system_fold.specs.Settings.{SettingsFields}
-use Rattle.line_files.specs.LineTaking.{LineTexts}
-use Rattle.file_commands.specs.Migrating.{MayStand, entries_of, says_line}
+use Rattle.line_files.specs.LineTaking.{LineWay}
+use Rattle.station_values.specs.Station.{StationFields, settings_of}
+use Rattle.file_commands.specs.Migrating.{MayStand, entries_of, journal_of}
 
 -- the fold of the entries taken, the page after the last that was converted, the form of the lines, and the number of feeds
 pub record MoverFields : Type 0 where
@@ -52,8 +52,6 @@ MovesLine m settings before line number None = (MayStand settings before line �
 MovesLine m settings before line number (Some n) = MayStand settings before line
     × HasMoved m settings (before ++ line ∷ []) None × (n ≡ numbered_next settings (entries_of before) (entry_of line))
 
--- and to its text: the text of the line in the second form
-abbrev pub MovesText : MoverFields → SettingsFields → List JournalLine → LineTexts → ℕ → Option ℕ → Type 0
-MovesText m settings before texts number None = ((line : JournalLine) → says_line settings before texts.text line → ⊥) × HasMoved m settings before (Some number)
-MovesText m settings before texts number (Some size) = (line : JournalLine) × says_line settings before texts.text line
-    × HasMoved m settings (before ++ line ∷ []) None × (take size texts.given ≡ numbered_text (numbered_next settings (entries_of before) (entry_of line)) ++ codes "\n")
+-- the lines of a journal are taken by a mover, which stands for those that it has converted
+abbrev pub journal_way : StationFields → LineWay MoverFields
+journal_way of = record { file = journal_of of; stands = λ mover lines bad. HasMoved mover (settings_of of) lines bad }

@@ -5,14 +5,13 @@ ghost use Rattle.command_ends.specs.Effects.{effect_of};
 ghost use Rattle.line_files.specs.Keeping.{TriesFile};
 ghost use Rattle.line_files.specs.LineFiles.{RunsThrough};
 ghost use Rattle.file_commands.specs.Migrating.{RunsMigrate, journal_of, migrate_ending};
-ghost use Rattle.file_commands.specs.JournalTaking.{IsEven, IsMovedBy};
+ghost use Rattle.file_commands.specs.Moving.{HasMoved};
 ghost use Rattle.command_ends.specs.Reports.{Reports, status_in};
 ghost use Rattle.command_ends.specs.Unopened.{Lacks};
 ghost use Rattle.command_ends.specs.StationFile.{IsObstacle};
 ghost use Rattle.station_reader.specs.Faults.{Says};
-ghost use Rattle.station_values.specs.Station.{StationFields};
+ghost use Rattle.station_values.specs.Station.{StationFields, settings_of};
 
-mod lines;
 mod mover;
 
 use command_ends::{
@@ -20,9 +19,8 @@ use command_ends::{
     finish_page, judge, open_station,
 };
 use file_reader::{FileEnd, LogEnd};
-use line_files::{ending_at, read_lines};
-use lines::Mover;
-use mover::{JournalMover, MOST_LINES};
+use line_files::{ByLine, ending_at, read_lines};
+use mover::{MOST_LINES, Mover, TOO_LONG};
 use outside_traits::{Failed, Outside, Sink, Source};
 use std::alloc::Global;
 
@@ -43,17 +41,18 @@ fn migrate_ending(end: LogEnd) -> Ending
 }
 
 // Converts a journal to its end: writes its lines in the second form, then the page of their entries and the status line.
-fn move_whole<S: Source, K: Sink>(journal: &mut S, mover: &mut JournalMover, out: &mut K) -> Report
-    requires { IsEven mover.old }
+fn move_whole<S: Source, K: Sink>(journal: &mut S, mover: Mover, out: &mut K) -> Report
+    requires { mover.fold.length ≡ 0 }
     ensures number { S.opening journal.new ≡ S.opening journal.old }
-    ensures runs { (of : StationFields) → IsMovedBy mover.old of [] [] None →
+    ensures runs { (of : StationFields) → HasMoved mover (settings_of of) [] None →
         RunsThrough (journal_of of) (S.state journal.old) (S.state journal.new) (K.state out.old)
         (K.state out.new) (status_in result) }
-    ensures reports { (of : StationFields) → IsMovedBy mover.old of [] [] None →
+    ensures reports { (of : StationFields) → HasMoved mover (settings_of of) [] None →
         Reports result (K.state out.old) (K.state out.new) }
 {
-    match read_lines(journal, mover, JOURNAL_LIMIT, out) {
-        Ok(end) => finish_page(&mover.mover.page(), migrate_ending(end), out),
+    let mut lines = ByLine::new(mover, TOO_LONG, Some(MOST_LINES));
+    match read_lines(journal, &mut lines, JOURNAL_LIMIT, out) {
+        Ok(end) => finish_page(&lines.taker.page(), migrate_ending(end), out),
         Err(Failed) => Report::Unwritten,
     }
 }
@@ -61,36 +60,35 @@ fn move_whole<S: Source, K: Sink>(journal: &mut S, mover: &mut JournalMover, out
 // Opens a journal, converts it and gives it back.
 fn open_and_move<O: Outside, K: Sink>(
     name: &str,
-    mover: JournalMover,
+    mover: Mover,
     outside: &mut O,
     out: &mut K,
 ) -> Report
-    requires { IsEven mover }
+    requires { mover.fold.length ≡ 0 }
     ensures gate { O.gate_out outside.new ≡ O.gate_out outside.old }
-    ensures tried { (of : StationFields) → IsMovedBy mover of [] [] None →
+    ensures tried { (of : StationFields) → HasMoved mover (settings_of of) [] None →
         TriesFile Subject.Journal (journal_of of) name.now
         (effect_of (O.state outside.old) (O.state outside.new) (K.state out.old) (K.state out.new) (status_in result)) }
-    ensures reports { (of : StationFields) → IsMovedBy mover of [] [] None →
+    ensures reports { (of : StationFields) → HasMoved mover (settings_of of) [] None →
         Reports result (K.state out.old) (K.state out.new) }
 {
-    let mut mover = mover;
     let Ok(mut journal) = outside.open_log(name) else {
         return finish(Ending::NotOpened(Subject::Journal), out);
     };
-    let report = move_whole(&mut journal, &mut mover, out);
+    let report = move_whole(&mut journal, mover, out);
     outside.give_back_log(journal);
     report
 }
 
 // The mover for a station file whose reading ended in this way, or what keeps the station from being used.
-fn prepare(alloc: Global, end: FileEnd, text: &[u8]) -> Result<JournalMover, Obstacle>
-    ensures even { IfOk result IsEven }
+fn prepare(alloc: Global, end: FileEnd, text: &[u8]) -> Result<Mover, Obstacle>
+    ensures none { IfOk result (λ mover. mover.fold.length ≡ 0) }
     ensures judged { MatchResult result
-        (λ mover. (end ≡ Whole) × ((of : StationFields) × Says text.now of × IsMovedBy mover of [] [] None))
+        (λ mover. (end ≡ Whole) × ((of : StationFields) × Says text.now of × HasMoved mover (settings_of of) [] None))
         (λ obstacle. IsObstacle end text.now obstacle) }
 {
     match judge(alloc, end, text) {
-        Ok(station) => Ok(JournalMover::new(Mover::new(station.settings()))),
+        Ok(station) => Ok(Mover::new(station.settings())),
         Err(obstacle) => Err(obstacle),
     }
 }

@@ -27,9 +27,10 @@ use Rattle.command_ends.specs.declared.station_file.obstacle.Obstacle.{Obstacle}
 use Rattle.command_ends.specs.Effects.{Effect, effect_of}
 use Rattle.command_ends.specs.Endings.{status_of, status_line}
 use Rattle.command_ends.specs.Keeping.{OpensStation}
+use Rattle.line_files.specs.declared.by_line.ByLine.{ByLine}
 use Rattle.line_files.specs.Keeping.{TriesFile}
 use Rattle.line_files.specs.LineFiles.{LineFile, HasItemsOf, RunsThrough, RunsAgainst, IsGoodFile, HasGoodFile, needed_by}
-use Rattle.line_files.specs.LineTaking.{IsTakenBy, LineTaker, LineWay, file_says}
+use Rattle.line_files.specs.LineTaking.{IsTakenBy, LineWay, file_says}
 use Rattle.line_files.specs.Reading.{ReadsLines}
 use Rattle.command_ends.specs.StationFile.{HasStation, IsObstacle, IsStation, status_at, line_at}
 use Rattle.line_files.specs.Taking.{EndsItself, EndsStopped, flow_of}
@@ -46,13 +47,13 @@ items_stay : (f : LineFile) (items : List f.Item) (prefix later : List ℕ) (bad
 items_stay f items prefix later None h none = subst (λ (b : List ℕ). HasItemsOf f b items None) (sym (ap (λ (b : List ℕ). prefix ++ b) (none refl) ∙ append-nil prefix)) h
 items_stay f items prefix later (Some n) h none = bad_stays f.says f.too_long items n prefix later h
 
-module _ {T : Type 0} (way : LineWay T) (lines : LineTaker T) where
+module _ {T : Type 0} (too_long : ℕ) (way : LineWay T) (lines : ByLine T) where
   pub runs_after : (file file_now : SourceState) (out out_mid out_now : SinkState) (end : LogEnd) (result : Status) (page : PageFields) (due : Ending) →
-      EndsItself (IsTakenBy way lines) way.file.most (flow_of file file_now out out_mid) end →
+      EndsItself (IsTakenBy too_long way lines) way.file.most (flow_of file file_now out out_mid) end →
       ((items : List way.file.Item) (bad : Option ℕ) → way.stands lines.taker items bad → page ≡ way.file.page items) →
       ((items : List way.file.Item) (bad : Option ℕ) → way.stands lines.taker items bad → due ≡ way.file.ending end items) → Answers (status_of due) result out_mid out_now (page_text page ++ status_line due) → RunsThrough way.file file file_now out out_now result
   runs_after file file_now out out_mid out_now end result page due h page_is due_is answers =
-      let p : IsTakenBy way lines h.prefix h.text h.bad = h.held in
+      let p : IsTakenBy too_long way lines h.prefix h.text h.bad = h.held in
       inl (record {
         bytes = h.prefix ++ h.later;
         items = p.items;
@@ -66,11 +67,6 @@ module _ {T : Type 0} (way : LineWay T) (lines : LineTaker T) where
         given = subst (λ (t : List ℕ). WritesAll out out_mid t) p.text_is h.written;
         written = subst (λ (q : PageFields). Answers (status_of due) result out_mid out_now (page_text q ++ status_line due)) (page_is p.items h.bad p.taken) answers;
       })
-
-  pub taken_says : (bytes text : List ℕ) (bad : Option ℕ) → IsTakenBy way lines bytes text bad → bad ≡ None → file_says way.file bytes text
-  taken_says bytes text bad h none =
-      let held = subst (λ (b : Option ℕ). IsTakenBy way lines bytes text b) none h in
-      (held.items, held.said, held.text_is)
 
 -- a write failed in what the last piece gives
 pub runs_stopped : (f : LineFile) (file file_now : SourceState) (out out_now : SinkState) → EndsStopped (file_says f) f.most (flow_of file file_now out out_now) → RunsThrough f file file_now out out_now WriteFault

@@ -4,7 +4,6 @@ ghost use Rattle.file_reader.specs.declared.reader.FileEnd.TheVariants.{Whole};
 ghost use Rattle.command_ends.specs.Effects.{effect_of};
 ghost use Rattle.line_files.specs.Keeping.{TriesFile};
 ghost use Rattle.line_files.specs.LineFiles.{RunsThrough};
-ghost use Rattle.replay_command.specs.Playing.{IsPlayedBy};
 ghost use Rattle.replay_command.specs.Replaying.{RunsReplay, replay_ending, script_of};
 ghost use Rattle.command_ends.specs.Reports.{Reports, status_in};
 ghost use Rattle.command_ends.specs.Unopened.{Lacks};
@@ -15,7 +14,7 @@ ghost use Rattle.replay_command.specs.Replay.{case_of};
 ghost use Rattle.station_reader.specs.Faults.{Says};
 ghost use Rattle.station_values.specs.Station.{StationFields};
 
-mod replayer;
+mod lines;
 
 use crate::{BoxedReceiver, Player};
 use command_ends::{
@@ -23,10 +22,10 @@ use command_ends::{
     finish_page, judge, open_station,
 };
 use file_reader::{FileEnd, LogEnd};
-use line_files::{ending_at, read_lines};
+use line_files::{ByLine, ending_at, read_lines};
+use lines::TOO_LONG;
 use outside_traits::{Failed, Outside, Sink, Source};
 use radio_receiver::Receiver;
-use replayer::Replayer;
 use std::alloc::{AllocError, Global};
 
 // The most bytes of a script.
@@ -45,34 +44,6 @@ fn replay_ending(end: LogEnd, lost: bool, limit: u32) -> Ending
 // Plays a script to its end: writes what its lines give, then the page of the entries kept and the status line.
 fn play_whole<S: Source, K: Sink>(
     script: &mut S,
-    replayer: &mut Replayer<BoxedReceiver>,
-    limit: u32,
-    out: &mut K,
-) -> Report
-    requires ready { IsReady least_start replayer.old.player }
-    requires none { replayer.old.lines ≡ 0 }
-    ensures number { S.opening script.new ≡ S.opening script.old }
-    ensures replays { (station : StationFields) →
-        IsPlayedBy stands_for replayer.old (case_of station limit) [] [] None →
-        RunsThrough (script_of limit station) (S.state script.old) (S.state script.new) (K.state out.old)
-        (K.state out.new) (status_in result) }
-    ensures reports { (station : StationFields) →
-        IsPlayedBy stands_for replayer.old (case_of station limit) [] [] None →
-        Reports result (K.state out.old) (K.state out.new) }
-{
-    match read_lines(script, replayer, LIMIT, out) {
-        Ok(end) => {
-            let page = replayer.player.page();
-            let ending = replay_ending(end, replayer.player.is_full(), limit);
-            finish_page(&page, ending, out)
-        }
-        Err(Failed) => Report::Unwritten,
-    }
-}
-
-// Replays a script with a player that has played nothing yet.
-fn play<S: Source, K: Sink>(
-    script: &mut S,
     player: Player<BoxedReceiver>,
     limit: u32,
     out: &mut K,
@@ -85,8 +56,15 @@ fn play<S: Source, K: Sink>(
     ensures reports { (station : StationFields) → HasPlayed stands_for player (case_of station limit) [] →
         Reports result (K.state out.old) (K.state out.new) }
 {
-    let mut replayer = Replayer::new(player);
-    play_whole(script, &mut replayer, limit, out)
+    let mut lines = ByLine::new(player, TOO_LONG, None);
+    match read_lines(script, &mut lines, LIMIT, out) {
+        Ok(end) => {
+            let page = lines.taker.page();
+            let ending = replay_ending(end, lines.taker.is_full(), limit);
+            finish_page(&page, ending, out)
+        }
+        Err(Failed) => Report::Unwritten,
+    }
 }
 
 // Opens a script, replays it and gives it back.
@@ -108,7 +86,7 @@ fn open_and_play<O: Outside, K: Sink>(
     let Ok(mut script) = outside.open_log(name) else {
         return finish(Ending::NotOpened(Subject::Script), out);
     };
-    let report = play(&mut script, player, limit, out);
+    let report = play_whole(&mut script, player, limit, out);
     outside.give_back_log(script);
     report
 }

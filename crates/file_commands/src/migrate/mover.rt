@@ -1,144 +1,156 @@
-//! Cuts the lines of a journal out of its bytes and converts them, one after the other.
-ghost use Rattle.std.specs.Prelude.{◌≡◌, ◌+◌, ◌<◌, ◌≤◌, ◌^◌, List, [], None, length, take, MatchOption};
-ghost use Rattle.journal_entry.specs.declared.line.JournalLine.{JournalLine};
-ghost use Rattle.journal_entry.specs.declared.writer.TheConstants.{LINE_ROOM};
-ghost use Rattle.line_files.specs.Cutting.{line_in};
-ghost use Rattle.file_commands.specs.JournalTaking.{IsEven, IsMovedBy, journal_way, journal_taker};
-ghost use Rattle.line_files.specs.LineTaking.{TakesLine, line_texts};
-ghost use Rattle.file_commands.specs.Moving.{HasMoved, MovesText};
-ghost use Rattle.line_files.specs.Taking.{Fits};
-ghost use Rattle.station_values.specs.Station.{StationFields, settings_of};
-ghost use Rattle.system_fold.specs.Settings.{SettingsFields};
+//! What is kept of a journal while its lines are converted, whatever its length.
+ghost use Rattle.std.specs.Prelude.{◌≡◌, ◌+◌, ◌<◌, ◌≤◌, ◌^◌, ◌↔◌, IsTrue, [], List, None, length};
+ghost use Rattle.journal_entry.specs.declared.line.JournalLine as journal;
+ghost use Rattle.file_commands.specs.Migrating.{StatesNumber};
+ghost use Rattle.system_fold.specs.Settings.{AreValid, SettingsFields};
 
-use crate::migrate::lines::Mover;
+use clock_page::Page;
 use command_ends::Line;
-use file_reader::LogEnd;
-use journal_entry::{LINE_ROOM, read_line};
-use line_files::{Cut, Gives, LineCutter, Taker, write_numbered_line};
-use pulse_log::{BadLine, Taken};
+use journal_entry::{Entry, Form, JournalLine, Numbered, is_valid, read_line};
+use line_files::{LineTaker, write_numbered_line};
+use std::marker::Model;
+use system_fold::{FoldState, Settings};
 
-// The most lines of a journal.
+/// The most lines of a journal.
 pub const MOST_LINES: u64 = 4_194_304;
 
-// A line of a journal is too long at this byte.
-const TOO_LONG: usize = 300;
+/// A line of a journal is too long at this many bytes.
+pub const TOO_LONG: usize = 300;
 
-// Converts the lines of a journal as its bytes come.
+// What is kept of the lines so far: the fold of their entries, the page after them, and their form.
 #[derive(Drop)]
-pub struct JournalMover {
-    pub cutter: LineCutter,
-    pub mover: Mover,
-    pub lines: u64,
+pub struct Mover {
+    fold: FoldState,
+    page: Page,
+    form: Option<Form>,
+    sources: u32,
 }
 
-// Converts the line with this text and this number into the second form.
-fn move_text(mover: &mut Mover, text: &[u8], number: u64, line: &mut Line) -> Option<usize>
-    requires { mover.old.fold.length < 2 ^ 22 }
-    ensures grown { mover.new.fold.length ≤ mover.old.fold.length + 1 }
-    ensures fits { MatchOption result (Unit {0}) (λ size. size ≤ LINE_ROOM) }
-    ensures moves { (settings : SettingsFields) (before : List JournalLine) → number ≡ length before + 1 →
-        length before < 4194304 →
-        HasMoved mover.old settings before None →
-        MovesText mover.new settings before (line_texts text.now line.new) number result }
+impl Model for Mover {
+    ghost use Rattle.file_commands.specs.Moving.{IsMoving, MoverFields};
+
+    ghost Value = { MoverFields };
+
+    ghost view = { λ m. record { fold = m.fold; page = m.page; form = m.form; sources = m.sources } };
+
+    ghost invariant = { λ m. IsMoving m.fold m.sources };
+}
+
+// A line of the second form has this number, rate and entry.
+fn reports(line: &JournalLine, numbered: &Numbered) -> bool
+    ensures { IsTrue result ↔ StatesNumber line.now numbered.now }
 {
-    let Some(read) = read_line(text) else {
-        return None;
-    };
-    let Some(numbered) = mover.take(&read, number) else {
-        return None;
-    };
-    Some(write_numbered_line(&numbered, line))
-}
-
-impl JournalMover {
-    // No byte is taken yet.
-    pub fn new(mover: Mover) -> JournalMover
-        requires { mover.fold.length ≡ 0 }
-        ensures even { IsEven result }
-        ensures moved { (of : StationFields) → HasMoved mover (settings_of of) [] None →
-            IsMovedBy result of [] [] None }
-    {
-        JournalMover {
-            cutter: LineCutter::new(TOO_LONG),
-            mover,
-            lines: 0,
-        }
-    }
-
-    // Converts the line that has ended.
-    fn move_line(&mut self, line: &mut Line) -> Gives
-        requires even { IsEven self.old }
-        requires room { self.old.lines < 4194304 }
-        ensures even { IsEven self.new }
-        ensures cutter { self.new.cutter ≡ self.old.cutter }
-        ensures fits { Fits result }
-        ensures moves { (of : StationFields) (before : List JournalLine) → self.old.lines ≡ length before →
-            HasMoved self.old.mover (settings_of of) before None →
-            TakesLine (journal_way of) self.old.lines (journal_taker self.new) before
-            (line_texts (line_in self.old.cutter) line.new) result }
-    {
-        let number = self.lines + 1;
-        self.lines = number;
-        match move_text(&mut self.mover, self.cutter.line(), number, line) {
-            Some(length) => Ok(Some(length)),
-            None => Err(BadLine { line: number }),
-        }
+    match line {
+        JournalLine::Bare(_) => true,
+        JournalLine::Numbered(reported) => reported.length == numbered.length
+            && reported.rate == numbered.rate,
     }
 }
 
-impl Taker for JournalMover {
-    ghost use Rattle.std.specs.Prelude.{◌^◌};
-    ghost use Rattle.file_commands.specs.JournalTaking.{IsEven, IsMovedBy, journal_says};
+// An entry with its number, and the rate of the page after it.
+fn numbered_by(page: &Page, number: u64, entry: &Entry) -> Numbered
+    ensures { result ≡ record { length = number; rate = page.now.rate; entry = entry.now } }
+{
+    Numbered {
+        length: number,
+        rate: page.rate,
+        entry: *entry,
+    }
+}
+
+impl Mover {
+    ghost use Rattle.file_commands.specs.Moving.{HasMoved, IsFormOf, MovesLine};
+    ghost use Rattle.file_commands.specs.Migrating.{HasFormOf};
+
+    // No line is converted yet.
+    pub fn new(settings: &Settings) -> Mover
+        requires { AreValid settings.now }
+        ensures moved { HasMoved result settings.now [] None }
+        ensures none { result.fold.length ≡ 0 }
+    {
+        let fold = FoldState::new(settings);
+        Mover {
+            page: fold.page(),
+            fold,
+            form: None,
+            sources: settings.count(),
+        }
+    }
+
+    // Whether a line has the form of those before it.
+    fn has_form(&self, line: &JournalLine) -> bool
+        ensures { (before : List journal.JournalLine) → IsFormOf self.now.form before →
+            (IsTrue result ↔ HasFormOf before line.now) }
+    {
+        match self.form {
+            Some(form) => line.form() == form,
+            None => true,
+        }
+    }
+
+    // Takes the line of this number: its second form, where it may stand here.
+    pub fn take(&mut self, line: &JournalLine, number: u64) -> Option<Numbered>
+        requires { self.old.fold.length < 2 ^ 22 }
+        ensures grown { self.new.fold.length ≤ self.old.fold.length + 1 }
+        ensures moves { (settings : SettingsFields) (before : List journal.JournalLine) → number ≡ length before + 1 →
+            length before < 4194304 →
+            HasMoved self.old settings before None → MovesLine self.new settings before line.now number result }
+    {
+        if !self.has_form(line) || !is_valid(line.entry(), self.sources) {
+            return None;
+        }
+        self.form = Some(line.form());
+        self.fold.step(line.entry());
+        let page = self.fold.page();
+        let numbered = numbered_by(&page, number, line.entry());
+        if !reports(line, &numbered) {
+            return None;
+        }
+        self.page = page;
+        Some(numbered)
+    }
+
+    // The page after the lines that were converted.
+    pub fn page(&self) -> Page
+        ensures { result ≡ self.now.page }
+    {
+        self.page
+    }
+}
+
+impl LineTaker for Mover {
+    ghost use Rattle.file_commands.specs.Moving.{journal_way};
+    ghost use Rattle.file_commands.specs.declared.migrate.mover.TheConstants.{MOST_LINES, TOO_LONG};
+    ghost use Rattle.std.specs.Prelude.{Some, refl};
+    ghost use Rattle.std.proofs.Common.{sym};
+    ghost use Rattle.std.proofs.lemmas.Option.{none-some};
     ghost use Rattle.station_values.specs.Station.{StationFields};
+
+    ghost too_long = { TOO_LONG };
+
+    ghost most = { Some MOST_LINES };
 
     ghost Case = { StationFields };
 
-    ghost says = { journal_says };
+    ghost way = { journal_way };
 
-    ghost holds = { IsMovedBy };
+    ghost is_ready = { λ mover count. mover.fold.length ≤ count };
 
-    ghost is_ready = { IsEven };
-
-    // After the greatest number of lines it takes no more.
-    ghost room = { λ mover. 2 ^ 64 };
-
-    fn take(&mut self, bytes: &[u8], line: &mut Line) -> Taken<Gives> {
-        if self.lines == MOST_LINES {
-            return Taken {
-                count: 1,
-                found: Err(BadLine {
-                    line: MOST_LINES + 1,
-                }),
-            };
-        }
-        let taken = self.cutter.take(bytes);
-        match taken.found {
-            Cut::More => Taken {
-                count: taken.count,
-                found: Ok(None),
-            },
-            Cut::Line => Taken {
-                count: taken.count,
-                found: self.move_line(line),
-            },
-            Cut::TooLong => Taken {
-                count: taken.count,
-                found: Err(BadLine {
-                    line: self.lines + 1,
-                }),
-            },
-        }
+    // Converts the line into the second form.
+    fn take_line(&mut self, text: &[u8], count: u64, line: &mut Line) -> Option<usize> {
+        let Some(read) = read_line(text) else {
+            return None;
+        };
+        let Some(numbered) = self.take(&read, count + 1) else {
+            return None;
+        };
+        Some(write_numbered_line(&numbered, line))
     }
 
-    fn at_end(&self) -> LogEnd {
-        if self.cutter.has_tail() {
-            LogEnd::BadLine {
-                line: self.lines + 1,
-            }
-        } else {
-            LogEnd::Whole
-        }
-    }
-
-    ghost held_says = { λ mover of bytes text held. (held.items, held.said, held.text_is) };
+    ghost is_way = { λ of. record {
+      none = refl;
+      limit = λ lines. refl;
+      room = λ lines text line says. says.1.room;
+      ends = λ mover lines bad moved. record { page = moved.page; going = λ none. absurd (none-some bad (sym none)) };
+    } };
 }

@@ -1,4 +1,4 @@
--- What the search leaves open of `migrate::lines::Mover::take`.
+-- What the search leaves open of `migrate::mover::Mover::take`.
 use Rattle.std.proofs.Common.{◌≡◌, ◌∙◌, ◌++◌, ◌∷◌, [], Some, None, length, refl, ap, sym, subst}
 use Rattle.journal_entry.specs.Lines.{entry_of}
 use Rattle.journal_entry.specs.Valid.{IsValid}
@@ -6,7 +6,7 @@ use Rattle.journal_entry.specs.declared.entry.Entry.{Entry}
 use Rattle.file_commands.specs.Migrating.{entries_of}
 use Rattle.file_commands.specs.Moving.{HasMoved, MoverFields}
 use Rattle.file_commands.proofs.MovingLaws.{feeds_count, moves_on, number_is, refuses_place}
-use Rattle.file_commands.proofs.migrate.lines.Mover.take.Goals as goal
+use Rattle.file_commands.proofs.migrate.mover.Mover.take.Goals as goal
 
 pub step-requires-clause-valid : goal.step-requires-clause-valid
 step-requires-clause-valid c =
