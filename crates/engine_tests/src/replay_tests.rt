@@ -1,6 +1,8 @@
 //! Tests of `replay` over the fakes: worked scripts, and each fault on their way. The frames are those of DCF77 by PTB's table and of MSF by NPL's,
 //! computed from the calendar.
+use crate::runs::same;
 use crate::scene::plays;
+use replay_command::SCRIPT_LIMIT;
 use std::alloc::Global;
 use std::process::Abort;
 use std::sync::Wait;
@@ -410,4 +412,10 @@ fn a_delay_is_taken_off(rt: HostRuntime) {
         rt.alloc(),
         &[REPLAY, station, "| swap 0\n> pulse 0 noon 0 122"],
     );
+}
+
+// What docs/FORMATS.md gives a script.
+#[test]
+fn a_script_may_have_two_to_the_twenty_six_bytes(rt: HostRuntime) {
+    same(&rt, SCRIPT_LIMIT, 67_108_864);
 }

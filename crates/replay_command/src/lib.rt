@@ -18,5 +18,5 @@ mod text;
 pub use outcome::{Invalid, Outcome};
 pub use player::Player;
 pub use radio_receiver::BoxedReceiver;
-pub use replay::run_replay;
+pub use replay::{SCRIPT_LIMIT, run_replay};
 pub use text::write_outcome;

@@ -28,8 +28,8 @@ use outside_traits::{Failed, Outside, Sink, Source};
 use radio_receiver::Receiver;
 use std::alloc::{AllocError, Global};
 
-// The most bytes of a script.
-const LIMIT: usize = 1 << 26;
+/// The most bytes of a script.
+pub const SCRIPT_LIMIT: usize = 1 << 26;
 
 // How a command ends that has played a script so far, where entries were lost or not.
 fn replay_ending(end: LogEnd, lost: bool, limit: u32) -> Ending
@@ -57,7 +57,7 @@ fn play_whole<S: Source, K: Sink>(
         Reports result (K.state out.old) (K.state out.new) }
 {
     let mut lines = ByLine::new(player, TOO_LONG, None);
-    match read_lines(script, &mut lines, LIMIT, out) {
+    match read_lines(script, &mut lines, SCRIPT_LIMIT, out) {
         Ok(end) => {
             let page = lines.taker.page();
             let ending = replay_ending(end, lines.taker.is_full(), limit);
