@@ -90,6 +90,7 @@ usage 'radio_ntpd: 7 stands alone: a number goes after --seed' drill 7
 usage 'radio_ntpd: --log is given twice' drill --log a --log b
 usage 'radio_ntpd: --plan wants dcf, msf or wwvb' decode --plan x
 usage 'radio_ntpd: unknown option --staton' decode --staton a --log
+usage 'radio_ntpd: unknown option --bad' --bad --help
 usage 'radio_ntpd: no command' --seed 7
 usage 'radio_ntpd: unknown command server' server
 usage 'radio_ntpd: two commands, serve and decode' serve decode

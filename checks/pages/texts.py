@@ -68,7 +68,7 @@ def main() -> int:
     argparse.ArgumentParser(description="Compares docs/STANDARD_ERROR.md with the texts of crates/standard_error.").parse_args()
     page = (TOP / "docs/STANDARD_ERROR.md").read_text(encoding="utf-8")
     held = [*literals("../../service_links/src/handed.rt"), *literals("../../service_links/src/outside.rt")]
-    spoken = [*literals("fault.rt"), *literals("message.rt"), *literals("names.rt"), *literals("beginning.rt"), *literals("commands.rt"), *constants(), *held]
+    spoken = [*literals("fault.rt"), *literals("message.rt"), *literals("names.rt"), *literals("beginning.rt"), *constants(), *held]
     said = "\n".join(spoken)
     read = plain(page + (TOP / "checks/messages.sh").read_text(encoding="utf-8"))
     wrong = [f"no text of the source has '{piece}'" for piece in sentences(page) if piece not in said]

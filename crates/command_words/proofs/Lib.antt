@@ -1,6 +1,8 @@
 -- Lemmas that several proofs of this crate use.
 mod Answered
 mod AskedLaws
+mod Faultless
+mod FaultLaws
 mod FitLaws
 mod LexerLaws
 mod LineLaws
@@ -9,6 +11,8 @@ mod Names
 mod PartLaws
 mod Parts
 mod Readings
+mod ReadLaws
+mod ReadParts
 mod RowLaws
 mod Steps
 mod Values

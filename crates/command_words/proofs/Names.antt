@@ -39,6 +39,19 @@ of_row p name (other ∷ more) all h =
       | inr e ↦ of_row p name more parts.1 e
     ]
 
+-- a name that is one of these, whichever of both is looked at first
+pub either_way : (name : Text) (names : List Text) → list_any (bytes_eq name) names ≡ list_any (λ other. bytes_eq other name) names
+either_way name [] = refl
+either_way name (other ∷ more) = elim (cases_Bool (bytes_eq name other)) [
+  | inl e ↦
+      let same : bytes_eq other name ≡ true = subst (λ t. bytes_eq t name ≡ true) (same_text name other e) (itself name) in
+      rw (e, same) refl
+  | inr e ↦ elim (cases_Bool (bytes_eq other name)) [
+    | inl h ↦ absurd (true≢false (sym (subst (λ t. bytes_eq name t ≡ true) (sym (same_text other name h)) (itself name)) ∙ e))
+    | inr h ↦ rw (e, h) (either_way name more)
+  ]
+]
+
 pub all_from : (p : Text → Bool) (names : List Text) → ((name : Text) → list_any (λ other. bytes_eq other name) names ≡ true → p name ≡ true) → list_all p names ≡ true
 all_from p [] each = refl
 all_from p (name ∷ more) each =

@@ -1,6 +1,5 @@
 -- The parts in which arguments are read, from the first on: command words, and the values of named options.
 use Rattle.std.specs.Prelude.{◌&&◌, Bool, true, not, Option, None, Some, option_map, List, [], ◌∷◌, ◌++◌, map, codes, if◌then◌else◌}
-use Rattle.std.specs.List.{list_any}
 use Rattle.std.specs.Str.{bytes_eq}
 use Rattle.clap.specs.Lexer.{long_of}
 use Rattle.clap.specs.Values.{reading_of}
@@ -8,18 +7,11 @@ use Rattle.clap.specs.Walk.{Row, has_row}
 use Rattle.clap.specs.declared.builder.value_parser.ValueParser.TheVariants.{String}
 use Rattle.clap.specs.declared.parser.matches.ValueSource.TheVariants.{CommandLine}
 use Rattle.command_words.specs.CommandLine.{Text, Given, is_value}
-use Rattle.command_words.specs.Matches.{option_names}
-
--- a command word, which has no name, or the value of a named option
-abbrev pub Part : Type 0
-Part = Option Text × Text
+pub use Rattle.command_words.specs.Faults.{Part, names_option, trailing_part}
 
 -- a part before others, where there is a reading of those
 abbrev pub with_part : Option Text → Text → Option (List Part) → Option (List Part)
 with_part name value rest = option_map (λ parts. (name, value) ∷ parts) rest
-
-abbrev pub trailing_part : Text → Part
-trailing_part word = (None, word)
 
 -- what begins with an argument that is not `--`: `--name=value`, `--name` before its value, or a command word
 abbrev pub part_of : Option (Text × Option Text) → Text → (Option Text → Option (List Part)) → Option (List Part)
@@ -35,9 +27,6 @@ parts_after (Some name) (value ∷ rest) = with_part (Some name) value (parts_af
 parts_after None (word ∷ rest) =
     if bytes_eq word (45 ∷ 45 ∷ []) then Some (map trailing_part rest)
     else part_of (long_of word) word (λ name. parts_after name rest)
-
-abbrev pub names_option : Text → Bool
-names_option name = list_any (λ other. bytes_eq other name) option_names
 
 abbrev pub is_known : Option Text → Bool
 is_known None = true

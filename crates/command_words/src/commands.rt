@@ -36,11 +36,51 @@ pub enum Command<'a> {
     },
 }
 
+/// What is wrong with arguments that ask for no command.
+#[derive(Clone, Copy, Debug, PartialEq, Eq)]
+pub enum Fault<'a> {
+    /// An argument begins with a hyphen, and no command has such an option.
+    UnknownOption(&'a str),
+    /// An option is the last argument, or what follows it is empty or begins with a hyphen.
+    NoValue {
+        option: &'a str,
+        next: &'a str,
+    },
+    /// There are no arguments.
+    NoArguments,
+    /// Each argument is an option or its value.
+    NoCommand,
+    /// This word is no command.
+    UnknownCommand(&'a str),
+    /// There are two commands.
+    TwoCommands(&'a str, &'a str),
+    /// A word stands beside the command, as where its option is missing: `due` is one that the command needs.
+    SecondWord {
+        command: &'a str,
+        word: &'a str,
+        due: &'a str,
+    },
+    /// An option is given twice.
+    Twice(&'a str),
+    /// An option is not the command's.
+    Foreign {
+        command: &'a str,
+        option: &'a str,
+    },
+    /// An option may not have its value.
+    OutOfRange(&'a str),
+    /// The command needs this option.
+    Missing {
+        command: &'a str,
+        option: &'a str,
+    },
+}
+
 /// Why arguments were refused.
 #[derive(Clone, Copy, Debug, PartialEq, Eq)]
-pub enum WordsFault {
-    /// The arguments ask for no command.
-    Usage,
+pub enum WordsFault<'a> {
+    /// The arguments ask for no command, and this is their first fault.
+    Usage(Fault<'a>),
     /// Memory ran out.
     Memory,
 }

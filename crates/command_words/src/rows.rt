@@ -15,30 +15,30 @@ use decimal_text::whole_number;
 use tick_units::Plan;
 
 // The options of each command.
-const DECODE: [&str; 2] = ["plan", "log"];
+pub const DECODE: [&str; 2] = ["plan", "log"];
 
-const REPLAY: [&str; 3] = ["station", "script", "limit"];
+pub const REPLAY: [&str; 3] = ["station", "script", "limit"];
 
-const SERVE: [&str; 4] = ["station", "during", "after", "limit"];
+pub const SERVE: [&str; 4] = ["station", "during", "after", "limit"];
 
-const DRILL: [&str; 2] = ["seed", "limit"];
+pub const DRILL: [&str; 2] = ["seed", "limit"];
 
-const MIGRATE: [&str; 2] = ["station", "journal"];
+pub const MIGRATE: [&str; 2] = ["station", "journal"];
 
 // Entries of a journal.
 const LIMIT: u64 = 1_048_576;
 
-const MOST: u64 = 4_194_304;
+pub const MOST: u64 = 4_194_304;
 
 // The seed of a drill.
-const MOST_SEED: u64 = 4_294_967_295;
+pub const MOST_SEED: u64 = 4_294_967_295;
 
 // Hearings of a link.
 const DURING: u64 = 16;
 
 const AFTER: u64 = 0;
 
-const MOST_HEARINGS: u64 = 1_000_000;
+pub const MOST_HEARINGS: u64 = 1_000_000;
 
 // The value that was read under a name.
 fn value<'a>(matches: &ArgMatches<'a>, name: &str) -> Option<&'a str>
@@ -47,7 +47,7 @@ fn value<'a>(matches: &ArgMatches<'a>, name: &str) -> Option<&'a str>
     matches.get_str(name)
 }
 
-fn is_value(text: &str) -> bool
+pub fn is_value(text: &str) -> bool
     ensures { result ≡ is_value text.now }
 {
     match text.as_bytes().first() {
@@ -56,7 +56,7 @@ fn is_value(text: &str) -> bool
     }
 }
 
-fn is_in(row: &[&str], name: &str) -> bool
+pub fn is_in(row: &[&str], name: &str) -> bool
     ensures { result ≡ list_any (λ w. bytes_eq name.now w.now) row.now }
 {
     row.iter().any(|other| name == *other)

@@ -53,8 +53,22 @@ fn without_first(arguments: Vec<String>) -> Vec<String>
     arguments
 }
 
-/// Arguments as their texts. It fails where there is no memory for the list.
-pub fn texts_of<'a>(alloc: Global, arguments: &'a [String]) -> Result<Vec<&'a str>, AllocError>
+/// The texts of arguments. It fails where there was no memory for the arguments, or there is none for the list.
+pub fn texts_of<'a>(
+    alloc: Global,
+    arguments: &'a Result<Vec<String>, AllocError>,
+) -> Result<Vec<&'a str>, AllocError>
+    ensures { IfOk result (λ texts. IsOkAnd arguments.now (λ given.
+        map (λ t. t.now) texts.items ≡ map (λ w. string_bytes w) given.items)) }
+{
+    match arguments {
+        Ok(arguments) => listed_texts(alloc, arguments.as_slice()),
+        Err(_) => Err(AllocError),
+    }
+}
+
+// Arguments as their texts. It fails where there is no memory for the list.
+fn listed_texts<'a>(alloc: Global, arguments: &'a [String]) -> Result<Vec<&'a str>, AllocError>
     ensures { IfOk result (λ texts. map (λ t. t.now) texts.items ≡ map (λ w. string_bytes w) arguments.now) }
 {
     let mut texts = Vec::new(alloc);

@@ -5,7 +5,6 @@
 
 ghost use Rattle.std.specs.Prelude.{◌≡◌, MatchResult, false, map};
 ghost use Rattle.std.specs.Process.{exit_status};
-ghost use Rattle.std.specs.String.{string_bytes};
 ghost use Rattle.command_ends.specs.Effects.{effect_of};
 ghost use Rattle.command_ends.specs.Endings.{number_of, status_of, status_line};
 ghost use Rattle.command_ends.specs.Reports.{Reports, status_in};
@@ -18,7 +17,7 @@ mod arguments;
 use arguments::{arguments_of, texts_of};
 use host_links::{HostOutside, StreamSink};
 use outside_traits::{Outside, Sink};
-use radio_engine::{Outcome, end_without_memory, run_to_outcome};
+use radio_engine::{Answer, Outcome, WordsFault, end_without_memory, run_to_outcome};
 use radio_receiver::{DcfReceiver, MsfReceiver, Receiver, WwvbReceiver};
 use service_links::{ServiceOutside, handed_over, write_reason};
 use standard_error::{write_beginning, write_report};
@@ -39,50 +38,65 @@ fn main(rt: HostRuntime) -> ExitCode {
     let all = env::args(&rt);
     let are_text = all.is_ok();
     let arguments = arguments_of(rt.alloc(), all);
+    let texts = texts_of(rt.alloc(), &arguments);
     if rt.stderr().is_terminal() {
-        write_beginning(&rt, &arguments);
+        write_beginning(&rt, &texts);
     }
     if let Some(handed) = handed_over(&rt, process::id(rt.process())) {
         let mut outside = ServiceOutside::new(&rt, &handed);
-        let ended = run_program(&rt, rt.alloc(), &arguments, &mut outside, &mut out);
-        write_report(&rt, &arguments, are_text, ended.outcome, outside.refusal());
+        let ended = run_program(&rt, rt.alloc(), &texts, &mut outside, &mut out);
+        let answer = ended.answer;
+        write_report(
+            &rt,
+            answer.asked,
+            are_text,
+            answer.outcome,
+            outside.refusal(),
+        );
         write_reason(&rt, &outside);
         return ended.code;
     }
     let mut outside = HostOutside::new(&rt);
-    let ended = run_program(&rt, rt.alloc(), &arguments, &mut outside, &mut out);
-    write_report(&rt, &arguments, are_text, ended.outcome, outside.refusal());
+    let ended = run_program(&rt, rt.alloc(), &texts, &mut outside, &mut out);
+    let answer = ended.answer;
+    write_report(
+        &rt,
+        answer.asked,
+        are_text,
+        answer.outcome,
+        outside.refusal(),
+    );
     ended.code
 }
 
 // What came of a run, and the exit status that says so.
 #[derive(Drop)]
-struct Ended {
+struct Ended<'a> {
     code: ExitCode,
-    outcome: Outcome,
+    answer: Answer<'a>,
 }
 
 // Runs the program: the command that the arguments ask for. It ends with the number of its status.
-fn run_program<R: Threads + Wait + Sync, O: Outside, K: Sink>(
+fn run_program<'a, R: Threads + Wait + Sync, O: Outside, K: Sink>(
     rt: &R,
     alloc: Global,
-    arguments: &Result<Vec<String>, AllocError>,
+    texts: &'a Result<Vec<&str>, AllocError>,
     outside: &mut O,
     out: &mut K,
-) -> Ended
+) -> Ended<'a>
     requires { O.gate_out outside.old ≡ false }
-    ensures code { exit_status result.code ≡ number_of (status_in result.outcome.report) }
-    ensures run { MatchResult arguments.now
-        (λ a. IsRun (map (λ t. string_bytes t) a.items) (effect_of (O.state outside.old) (O.state outside.new)
-        (K.state out.old) (K.state out.new) (status_in result.outcome.report)))
-        (λ _. Answers (status_of NoMemory) (status_in result.outcome.report) (K.state out.old) (K.state out.new)
+    ensures code { exit_status result.code ≡ number_of (status_in result.answer.outcome.report) }
+    ensures run { MatchResult texts.now
+        (λ given. IsRun (map (λ t. t.now) given.items) (effect_of (O.state outside.old) (O.state outside.new)
+        (K.state out.old) (K.state out.new) (status_in result.answer.outcome.report)))
+        (λ _. Answers (status_of NoMemory) (status_in result.answer.outcome.report) (K.state out.old) (K.state out.new)
         (status_line NoMemory) × (O.state outside.new ≡ O.state outside.old)) }
-    ensures reports { Reports result.outcome.report (K.state out.old) (K.state out.new) }
+    ensures reports { Reports result.answer.outcome.report (K.state out.old) (K.state out.new) }
 {
-    let outcome = run_given(rt, alloc, arguments, outside, out);
+    let answer = run_given(rt, alloc, texts, outside, out);
     Ended {
-        code: exit_code(&outcome),
-        outcome,
+        code: exit_code(&answer.outcome),
+        answer,
     }
 }
 
@@ -95,27 +109,38 @@ fn exit_code(outcome: &Outcome) -> ExitCode
 
 // Runs the command that the arguments ask for. Where there was not enough memory for them, or there is not for what the command is
 // handed, it opens nothing and writes only the status line.
-fn run_given<R: Threads + Wait + Sync, O: Outside, K: Sink>(
+fn run_given<'a, R: Threads + Wait + Sync, O: Outside, K: Sink>(
     rt: &R,
     alloc: Global,
-    arguments: &Result<Vec<String>, AllocError>,
+    texts: &'a Result<Vec<&str>, AllocError>,
     outside: &mut O,
     out: &mut K,
-) -> Outcome
+) -> Answer<'a>
     requires { O.gate_out outside.old ≡ false }
-    ensures run { MatchResult arguments.now
-        (λ a. IsRun (map (λ t. string_bytes t) a.items) (effect_of (O.state outside.old) (O.state outside.new)
-        (K.state out.old) (K.state out.new) (status_in result.report)))
-        (λ _. Answers (status_of NoMemory) (status_in result.report) (K.state out.old) (K.state out.new)
+    ensures run { MatchResult texts.now
+        (λ given. IsRun (map (λ t. t.now) given.items) (effect_of (O.state outside.old) (O.state outside.new)
+        (K.state out.old) (K.state out.new) (status_in result.outcome.report)))
+        (λ _. Answers (status_of NoMemory) (status_in result.outcome.report) (K.state out.old) (K.state out.new)
         (status_line NoMemory) × (O.state outside.new ≡ O.state outside.old)) }
-    ensures reports { Reports result.report (K.state out.old) (K.state out.new) }
+    ensures reports { Reports result.outcome.report (K.state out.old) (K.state out.new) }
 {
-    let Ok(arguments) = arguments else {
-        return end_without_memory(out);
+    let Ok(texts) = texts else {
+        return lacking(out);
     };
-    match run_arguments(rt, alloc, arguments.as_slice(), outside, out) {
-        Ok(outcome) => outcome,
-        Err(AllocError) => end_without_memory(out),
+    match run_arguments(rt, alloc, texts.as_slice(), outside, out) {
+        Ok(answer) => answer,
+        Err(AllocError) => lacking(out),
+    }
+}
+
+// What came of arguments where there was not enough memory before anything was opened.
+fn lacking<'a, K: Sink>(out: &mut K) -> Answer<'a>
+    ensures answers { Answers (status_of NoMemory) (status_in result.outcome.report) (K.state out.old) (K.state out.new) (status_line NoMemory) }
+    ensures reports { Reports result.outcome.report (K.state out.old) (K.state out.new) }
+{
+    Answer {
+        asked: Err(WordsFault::Memory),
+        outcome: end_without_memory(out),
     }
 }
 
@@ -144,28 +169,27 @@ where
 // The receivers of each plan.
 const OF_A_PLAN: usize = 4;
 
-// Runs the command that arguments ask for, with four receivers of each plan. Where there is not enough memory for the texts of the
-// arguments and the receivers, it does nothing.
-fn run_arguments<R: Threads + Wait + Sync, O: Outside, K: Sink>(
+// Runs the command that arguments ask for, with four receivers of each plan. Where there is not enough memory for the
+// receivers, it does nothing.
+fn run_arguments<'a, R: Threads + Wait + Sync, O: Outside, K: Sink>(
     rt: &R,
     alloc: Global,
-    arguments: &[String],
+    texts: &'a [&str],
     outside: &mut O,
     out: &mut K,
-) -> Result<Outcome, AllocError>
+) -> Result<Answer<'a>, AllocError>
     requires { O.gate_out outside.old ≡ false }
     ensures { MatchResult result
-        (λ outcome. IsRun (map (λ a. string_bytes a) arguments.now)
-        (effect_of (O.state outside.old) (O.state outside.new) (K.state out.old) (K.state out.new) (status_in outcome.report))
-        × Reports outcome.report (K.state out.old) (K.state out.new))
+        (λ answer. IsRun (map (λ t. t.now) texts.now)
+        (effect_of (O.state outside.old) (O.state outside.new) (K.state out.old) (K.state out.new) (status_in answer.outcome.report))
+        × Reports answer.outcome.report (K.state out.old) (K.state out.new))
         (λ _. (O.state outside.new ≡ O.state outside.old) × (K.state out.new ≡ K.state out.old)) }
 {
-    let texts = texts_of(alloc, arguments)?;
     let mut rack: Vec<Box<dyn Receiver + Send>> = Vec::new(alloc);
     for _ in 0..OF_A_PLAN {
         put_in_rack(&mut rack, Box::new(alloc, DcfReceiver::new())?, Plan::Dcf)?;
         put_in_rack(&mut rack, Box::new(alloc, MsfReceiver::new())?, Plan::Msf)?;
         put_in_rack(&mut rack, Box::new(alloc, WwvbReceiver::new())?, Plan::Wwvb)?;
     }
-    Ok(run_to_outcome(rt, alloc, texts.as_slice(), rack, outside, out))
+    Ok(run_to_outcome(rt, alloc, texts, rack, outside, out))
 }

@@ -1,7 +1,6 @@
 //! The message about a run that has ended.
 
-use crate::arguments::{Argument, value_of};
-use crate::fault::fault_of;
+use crate::fault::write_fault;
 use crate::fault_line::TomlFault;
 use crate::names::{is_leap_file, write_name};
 use crate::texts::{
@@ -10,6 +9,7 @@ use crate::texts::{
     range_of, write_texts,
 };
 use command_ends::{Ending, Outcome, Report, Subject};
+use command_words::{Command, Fault, WordsFault};
 use host_links::Refusal;
 use station_reader::{KeyText, StationFault};
 use std::fmt;
@@ -41,8 +41,10 @@ pub enum Detail {
 /// does not cover a struct whose parts are lent for different times.
 #[derive(Drop)]
 pub struct Message<'a> {
-    /// What follows the program's name, where that is text.
-    pub arguments: Option<Vec<Argument<'a>>>,
+    /// Whether the arguments are text.
+    pub are_text: bool,
+    /// The command that they ask for, or what is wrong with them.
+    pub asked: Result<Command<'a>, WordsFault<'a>>,
     /// What came of the command.
     pub outcome: Outcome,
     /// Why the last opening that failed was refused.
@@ -50,52 +52,42 @@ pub struct Message<'a> {
     pub detail: Detail,
 }
 
-// Whether an argument asks for help.
-fn is_help(argument: &Argument<'_>) -> bool {
-    match *argument {
-        Argument::Unknown(option) => option == "--help" || option == "-h",
-        Argument::Command(word) => word == "help",
-        Argument::Bare { .. } | Argument::Option { .. } => false,
-    }
-}
-
-// Whether the arguments ask for help.
-fn asks_help(arguments: &[Argument<'_>]) -> bool {
-    for argument in arguments {
-        if is_help(argument) {
-            return true;
+// The message about arguments that ask for no command, and whose first fault is this.
+fn write_usage<W: fmt::Write>(fault: Fault<'_>, f: &mut fmt::Formatter<W>) -> fmt::Result {
+    match fault {
+        Fault::NoArguments
+        | Fault::UnknownOption("--help" | "-h")
+        | Fault::UnknownCommand("help")
+        | Fault::SecondWord { word: "help", .. } => f.write_str(HELP),
+        Fault::UnknownOption("--version") => f.write_str(VERSION),
+        _ => {
+            f.write_str("radio_ntpd: ")?;
+            write_fault(fault, f)?;
+            f.write_str("\n")?;
+            f.write_str(COMMAND_LINES)
         }
     }
-    arguments.is_empty()
 }
 
-// Whether the arguments ask for the version.
-fn asks_version(arguments: &[Argument<'_>]) -> bool {
-    for argument in arguments {
-        if let Argument::Unknown("--version") = *argument {
-            return true;
-        }
+/// The file that a command names, where it names one of this kind. A log is the one feed of `decode`.
+pub fn file_named<'a>(
+    asked: &Result<Command<'a>, WordsFault<'a>>,
+    subject: Subject,
+) -> Option<&'a str> {
+    match (*asked, subject) {
+        (
+            Ok(
+                Command::Serve { station, .. }
+                | Command::Replay { station, .. }
+                | Command::Migrate { station, .. },
+            ),
+            Subject::Station,
+        ) => Some(station),
+        (Ok(Command::Replay { script, .. }), Subject::Script) => Some(script),
+        (Ok(Command::Migrate { journal, .. }), Subject::Journal) => Some(journal),
+        (Ok(Command::Decode { log, .. }), Subject::Feed(_) | Subject::Link(_)) => Some(log),
+        _ => None,
     }
-    false
-}
-
-// The message about arguments that ask for no command.
-fn write_usage<W: fmt::Write>(
-    arguments: &[Argument<'_>],
-    f: &mut fmt::Formatter<W>,
-) -> fmt::Result {
-    if asks_help(arguments) {
-        return f.write_str(HELP);
-    }
-    if asks_version(arguments) {
-        return f.write_str(VERSION);
-    }
-    if let Some(fault) = fault_of(arguments) {
-        f.write_str("radio_ntpd: ")?;
-        fault.write(f)?;
-        f.write_str("\n")?;
-    }
-    f.write_str(COMMAND_LINES)
 }
 
 // The table and the name of a key of a station file: those of `radio.0.plan` are `radio` and `plan`, and `bound` has no table.
@@ -177,25 +169,7 @@ fn line_text(subject: Subject) -> &'static str {
     }
 }
 
-// The option that names a file. A log is the one feed of `decode`.
-fn option_of(subject: Subject) -> &'static str {
-    match subject {
-        Subject::Station => "station",
-        Subject::Script => "script",
-        Subject::Journal => "journal",
-        Subject::Feed(_) | Subject::Link(_) => "log",
-    }
-}
-
-impl<'a> Message<'a> {
-    // The value of an option.
-    fn value(&self, option: &str) -> Option<&'a str> {
-        match &self.arguments {
-            Some(arguments) => value_of(arguments.as_slice(), option),
-            None => None,
-        }
-    }
-
+impl Message<'_> {
     // Whether a subject is a leap second file.
     fn is_leap_file(&self, subject: Subject) -> bool {
         match &self.outcome.known.station {
@@ -258,9 +232,13 @@ impl<'a> Message<'a> {
         }
     }
 
-    // Writes the value of an option, where it has one.
-    fn write_value<W: fmt::Write>(&self, option: &str, f: &mut fmt::Formatter<W>) -> fmt::Result {
-        match self.value(option) {
+    // Writes the name that the arguments give a file, where they give one.
+    fn write_named<W: fmt::Write>(
+        &self,
+        subject: Subject,
+        f: &mut fmt::Formatter<W>,
+    ) -> fmt::Result {
+        match file_named(&self.asked, subject) {
             Some(name) => write_texts(f, " (", name, ")"),
             None => Ok(()),
         }
@@ -275,7 +253,7 @@ impl<'a> Message<'a> {
         self.write_kind(subject, f)?;
         match &self.outcome.known.station {
             Some(station) => write_name(station, subject, f),
-            None => self.write_value(option_of(subject), f),
+            None => self.write_named(subject, f),
         }
     }
 
@@ -317,7 +295,7 @@ impl<'a> Message<'a> {
         f: &mut fmt::Formatter<W>,
     ) -> fmt::Result {
         f.write_str("radio_ntpd: the station file")?;
-        self.write_value("station", f)?;
+        self.write_named(Subject::Station, f)?;
         f.write_str(": ")?;
         self.write_fault(fault, f)?;
         f.write_str("\n")
@@ -353,12 +331,13 @@ impl<'a> Message<'a> {
 
     // The message about arguments that ask for no command.
     fn write_usage<W: fmt::Write>(&self, f: &mut fmt::Formatter<W>) -> fmt::Result {
-        match &self.arguments {
-            Some(arguments) => write_usage(arguments.as_slice(), f),
-            None => {
-                f.write_str("radio_ntpd: an argument is not UTF-8\n")?;
-                f.write_str(COMMAND_LINES)
-            }
+        if !self.are_text {
+            f.write_str("radio_ntpd: an argument is not UTF-8\n")?;
+            return f.write_str(COMMAND_LINES);
+        }
+        match self.asked {
+            Err(WordsFault::Usage(fault)) => write_usage(fault, f),
+            _ => f.write_str(COMMAND_LINES),
         }
     }
 

@@ -1,7 +1,8 @@
 //! The note of a run that begins to serve.
 
+use crate::Beginning;
 use crate::report::station_of;
-use crate::{Beginning, read_arguments};
+use command_words::{Command, read_words};
 use station_values::Station;
 use std::alloc::{AllocError, Global};
 use std::fs::{self, Files};
@@ -40,17 +41,9 @@ fn pipes_of<R: Files + AllocGlobal>(rt: &R, station: &Station) -> Result<Vec<Str
     Ok(pipes)
 }
 
-// What the station of these arguments serves, where they are those of `serve`.
-fn beginning_of<R: Files + AllocGlobal>(rt: &R, arguments: &[String]) -> Option<Beginning> {
-    let mut serves = false;
-    for word in arguments {
-        serves = serves || word.as_str() == "serve";
-    }
-    if !serves {
-        return None;
-    }
-    let arguments = read_arguments(rt.alloc(), arguments).ok()?;
-    let station = station_of(rt, arguments.as_slice())?;
+// What a station serves, where its file can be read beforehand.
+fn beginning_of<R: Files + AllocGlobal>(rt: &R, name: &str) -> Option<Beginning> {
+    let station = station_of(rt, name)?;
     Some(Beginning {
         ports: ports_of(rt.alloc(), &station).ok()?,
         pipes: pipes_of(rt, &station).ok()?,
@@ -61,10 +54,13 @@ fn beginning_of<R: Files + AllocGlobal>(rt: &R, arguments: &[String]) -> Option<
 /// station is a file. It is for who starts a run by hand.
 pub fn write_beginning<R: Files + AllocGlobal + Eprint>(
     rt: &R,
-    arguments: &Result<Vec<String>, AllocError>,
+    texts: &Result<Vec<&str>, AllocError>,
 ) {
-    if let Ok(arguments) = arguments {
-        if let Some(beginning) = beginning_of(rt, arguments.as_slice()) {
+    let Ok(texts) = texts else {
+        return;
+    };
+    if let Ok(Command::Serve { station, .. }) = read_words(rt.alloc(), texts.as_slice()) {
+        if let Some(beginning) = beginning_of(rt, station) {
             let _ = eprint!(rt; "{beginning}");
         }
     }

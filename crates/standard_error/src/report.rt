@@ -1,16 +1,18 @@
 //! What a run says on standard error: what came of it, and what its arguments and its files say, put together and written.
 
 use crate::{
-    Argument, BadLine, Detail, LineSeeker, Message, NO_MEMORY_LINE, NO_MINUTE, SAMPLE_BYTES,
-    TomlFault, file_of, is_leap_file, no_minute_text, read_arguments, toml_fault, value_of,
+    BadLine, Detail, LineSeeker, Message, NO_MINUTE, SAMPLE_BYTES, TomlFault, file_named, file_of,
+    is_leap_file, no_minute_text, toml_fault,
 };
 use command_ends::{Ending, MANY_DIFFER, Minutes, Outcome, Report, STATION_LIMIT, Subject};
+use command_words::{Command, WordsFault};
 use host_links::Refusal;
 use station_reader::{StationFault, read_station};
 use station_values::Station;
-use std::alloc::{AllocError, Global};
+use std::alloc::Global;
 use std::fs::{self, Files};
 use std::io::{Eprint, Read};
+use tick_units::Plan;
 
 // The most bytes of a file that are looked at for its bad line.
 const PIECE: usize = 4096;
@@ -26,24 +28,14 @@ fn beginning_of_file<R: Files + AllocGlobal>(rt: &R, name: &str, most: u64) -> O
     Some(bytes)
 }
 
-// The first bytes of the file that an option names.
-fn beginning_of<R: Files + AllocGlobal>(
-    rt: &R,
-    arguments: &[Argument<'_>],
-    option: &str,
-    most: u64,
-) -> Option<Vec<u8>> {
-    beginning_of_file(rt, value_of(arguments, option)?, most)
-}
-
-// The station of the arguments.
-pub(crate) fn station_of<R: Files + AllocGlobal>(
-    rt: &R,
-    arguments: &[Argument<'_>],
-) -> Option<Station> {
-    let text = beginning_of(rt, arguments, "station", STATION_LIMIT as u64)?;
+// The station of a file of this name.
+pub(crate) fn station_of<R: Files + AllocGlobal>(rt: &R, name: &str) -> Option<Station> {
+    let text = beginning_of_file(rt, name, STATION_LIMIT as u64)?;
     read_station(rt.alloc(), text.as_slice()).ok()
 }
+
+/// The command that the arguments ask for, or why they ask for none.
+type Asked<'a> = Result<Command<'a>, WordsFault<'a>>;
 
 // Where and why the station file of an outcome stops being TOML.
 fn find_toml_fault(alloc: Global, outcome: &Outcome) -> Option<TomlFault> {
@@ -53,12 +45,11 @@ fn find_toml_fault(alloc: Global, outcome: &Outcome) -> Option<TomlFault> {
     }
 }
 
-// Why a log gave no minute, where the arguments ask to decode one.
-fn find_hint<R: Files + AllocGlobal>(rt: &R, arguments: &[Argument<'_>]) -> Option<&'static str> {
-    let plan = value_of(arguments, "plan")?;
-    match beginning_of(rt, arguments, "log", SAMPLE_BYTES) {
-        Some(log) => Some(no_minute_text(rt.alloc(), plan, log.as_slice())),
-        None => Some(NO_MINUTE),
+// Why a log gave no minute that was decoded by this plan.
+fn find_hint<R: Files + AllocGlobal>(rt: &R, plan: Plan, log: &str) -> &'static str {
+    match beginning_of_file(rt, log, SAMPLE_BYTES) {
+        Some(log) => no_minute_text(rt.alloc(), plan.word(), log.as_slice()),
+        None => NO_MINUTE,
     }
 }
 
@@ -88,15 +79,13 @@ fn find_line<R: Files>(rt: &R, name: &str, number: u64) -> Option<LineSeeker> {
 
 // The file whose line is bad: one that the arguments name, or a feed of the station.
 fn bad_file<'a>(
-    arguments: &[Argument<'a>],
+    asked: &Asked<'a>,
     station: &'a Option<Station>,
     subject: Subject,
 ) -> Option<&'a str> {
     match (subject, station) {
-        (Subject::Script, _) => value_of(arguments, "script"),
-        (Subject::Journal, _) => value_of(arguments, "journal"),
-        (_, Some(station)) => file_of(station, subject),
-        (_, None) => value_of(arguments, "log"),
+        (Subject::Feed(_) | Subject::Link(_), Some(station)) => file_of(station, subject),
+        _ => file_named(asked, subject),
     }
 }
 
@@ -116,12 +105,12 @@ fn fault_in(
 // The bad line of a file, where the file can be read once more.
 fn find_bad_line<R: Files + AllocGlobal>(
     rt: &R,
-    arguments: &[Argument<'_>],
+    asked: &Asked<'_>,
     station: &Option<Station>,
     subject: Subject,
     number: u64,
 ) -> Option<BadLine> {
-    let name = bad_file(arguments, station, subject)?;
+    let name = bad_file(asked, station, subject)?;
     let seeker = find_line(rt, name, number)?;
     Some(BadLine {
         text: seeker.shown(rt.alloc()).ok()?,
@@ -132,7 +121,7 @@ fn find_bad_line<R: Files + AllocGlobal>(
 // What is said of a run that was done, which decoded a log of these minutes.
 fn find_done<R: Files + AllocGlobal>(
     rt: &R,
-    arguments: &[Argument<'_>],
+    asked: &Asked<'_>,
     minutes: Minutes,
 ) -> Option<Detail> {
     if minutes.agree {
@@ -141,22 +130,24 @@ fn find_done<R: Files + AllocGlobal>(
         Some(Detail::Disagreement)
     } else if minutes.lone {
         None
+    } else if let Ok(Command::Decode { plan, log }) = *asked {
+        Some(Detail::Hint(find_hint(rt, plan, log)))
     } else {
-        Some(Detail::Hint(find_hint(rt, arguments)?))
+        None
     }
 }
 
 // What the files of a run say beside its outcome.
 fn find_detail<R: Files + AllocGlobal>(
     rt: &R,
-    arguments: &[Argument<'_>],
+    asked: &Asked<'_>,
     outcome: &Outcome,
 ) -> Option<Detail> {
     match &outcome.report {
-        Report::Ended(Ending::Whole) => find_done(rt, arguments, outcome.known.minutes?),
+        Report::Ended(Ending::Whole) => find_done(rt, asked, outcome.known.minutes?),
         Report::Ended(Ending::WrongLine(subject, number)) => Some(Detail::Line(find_bad_line(
             rt,
-            arguments,
+            asked,
             &outcome.known.station,
             *subject,
             *number,
@@ -168,40 +159,22 @@ fn find_detail<R: Files + AllocGlobal>(
     }
 }
 
-// Writes the message, where there is memory for it.
-fn try_report<R: Files + AllocGlobal + Eprint>(
+/// Writes on standard error what a person needs to know of a run that has ended: what is wrong, where that can be named, or the
+/// help. `are_text` is false where an argument is not UTF-8.
+pub fn write_report<R: Files + AllocGlobal + Eprint>(
     rt: &R,
-    arguments: &[String],
+    asked: Asked<'_>,
     are_text: bool,
     outcome: Outcome,
     refusal: Option<Refusal>,
-) -> Result<(), AllocError> {
-    let arguments = read_arguments(rt.alloc(), arguments)?;
-    let detail = find_detail(rt, arguments.as_slice(), &outcome);
+) {
+    let detail = find_detail(rt, &asked, &outcome);
     let message = Message {
-        arguments: if are_text { Some(arguments) } else { None },
+        are_text,
+        asked,
         outcome,
         refusal,
         detail: detail.unwrap_or(Detail::Nothing),
     };
     let _ = eprint!(rt; "{message}");
-    Ok(())
-}
-
-/// Writes on standard error what a person needs to know of a run that has ended: what is wrong, where that can be named, or the
-/// help. Where there is not enough memory for it, the message says only that.
-pub fn write_report<R: Files + AllocGlobal + Eprint>(
-    rt: &R,
-    arguments: &Result<Vec<String>, AllocError>,
-    are_text: bool,
-    outcome: Outcome,
-    refusal: Option<Refusal>,
-) {
-    let arguments = match arguments {
-        Ok(arguments) => arguments.as_slice(),
-        Err(_) => &[],
-    };
-    if try_report(rt, arguments, are_text, outcome, refusal).is_err() {
-        let _ = eprint!(rt; "{NO_MEMORY_LINE}");
-    }
 }

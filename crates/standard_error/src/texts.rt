@@ -100,9 +100,6 @@ pub const NO_OUTPUT: &str = "standard output took no more: it is closed, or its 
 /// Where there is not enough memory.
 pub const NO_MEMORY: &str = "no memory was found, and nothing was done";
 
-/// Where there is not enough memory for the message.
-pub const NO_MEMORY_LINE: &str = "radio_ntpd: no memory was found to say more\n";
-
 /// Where the station file is no TOML, and was a pipe.
 pub const NO_TOML: &str = "it is not TOML, or not UTF-8";
 

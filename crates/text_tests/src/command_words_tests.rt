@@ -2,21 +2,29 @@
 ghost use Rattle.std.specs.Prelude.{◌<◌, ◌≤◌};
 
 use crate::shared::same_for;
-use command_words::{Command, WordsFault, read_words};
+use command_words::{Command, Fault, WordsFault, read_words};
 use std::alloc::Global;
 use std::process::Abort;
 use tick_units::Plan;
 
-// The command that the arguments ask for, without the clauses of its reader.
-fn read<'a>(alloc: Global, words: &'a [&'a str]) -> Result<Command<'a>, WordsFault> {
-    read_words(alloc, words)
+// What is wanted of arguments that ask for no command. Which fault they have is in `message_tests`.
+fn refused<'a>() -> Result<Command<'a>, WordsFault<'a>> {
+    Err(WordsFault::Usage(Fault::NoArguments))
 }
 
-fn decode<'a>(plan: Plan, log: &'a str) -> Result<Command<'a>, WordsFault> {
+// The command that the arguments ask for, without the clauses of its reader.
+fn read<'a>(alloc: Global, words: &'a [&'a str]) -> Result<Command<'a>, WordsFault<'a>> {
+    match read_words(alloc, words) {
+        Err(WordsFault::Usage(_)) => refused(),
+        result => result,
+    }
+}
+
+fn decode<'a>(plan: Plan, log: &'a str) -> Result<Command<'a>, WordsFault<'a>> {
     Ok(Command::Decode { plan, log })
 }
 
-fn replay<'a>(limit: u32) -> Result<Command<'a>, WordsFault> {
+fn replay<'a>(limit: u32) -> Result<Command<'a>, WordsFault<'a>> {
     Ok(Command::Replay {
         station: "s",
         script: "t",
@@ -24,7 +32,7 @@ fn replay<'a>(limit: u32) -> Result<Command<'a>, WordsFault> {
     })
 }
 
-fn serve<'a>(during: u64, after: u64, limit: u32) -> Result<Command<'a>, WordsFault> {
+fn serve<'a>(during: u64, after: u64, limit: u32) -> Result<Command<'a>, WordsFault<'a>> {
     Ok(Command::Serve {
         station: "s",
         during,
@@ -33,14 +41,14 @@ fn serve<'a>(during: u64, after: u64, limit: u32) -> Result<Command<'a>, WordsFa
     })
 }
 
-fn migrate<'a>() -> Result<Command<'a>, WordsFault> {
+fn migrate<'a>() -> Result<Command<'a>, WordsFault<'a>> {
     Ok(Command::Migrate {
         station: "s",
         journal: "j",
     })
 }
 
-fn drill<'a>(seed: u32, limit: u32) -> Result<Command<'a>, WordsFault> {
+fn drill<'a>(seed: u32, limit: u32) -> Result<Command<'a>, WordsFault<'a>> {
     Ok(Command::Drill { seed, limit })
 }
 
@@ -49,7 +57,7 @@ fn asks<'a>(
     rt: &impl Abort,
     alloc: Global,
     words: &'a [&'a str],
-    want: Result<Command<'a>, WordsFault>,
+    want: Result<Command<'a>, WordsFault<'a>>,
 ) {
     same_for(rt, &words, read(alloc, words), want);
 }
@@ -58,7 +66,7 @@ fn asks<'a>(
 pub fn are_refused(rt: &impl Abort, alloc: Global, name: &str, table: &[&[&str]]) {
     for words in table {
         let found = read(alloc, words);
-        same_for(rt, &(name, words), found, Err(WordsFault::Usage));
+        same_for(rt, &(name, words), found, refused());
     }
 }
 
@@ -163,7 +171,7 @@ const REPLAY_LIMITS: [(&str, Option<u32>); 16] = [
 fn asks_for_replay(rt: &impl Abort, alloc: Global, text: &str, limit: Option<u32>) {
     let want = match limit {
         Some(limit) => replay(limit),
-        None => Err(WordsFault::Usage),
+        None => refused(),
     };
     let words = ["--limit", text, "replay", "--station=s", "--script=t"];
     asks(rt, alloc, &words, want);
@@ -253,7 +261,7 @@ const HEARINGS: [(&str, Option<u64>); 17] = [
 fn asks_for_hearings(rt: &impl Abort, alloc: Global, number: &str, want: Option<u64>) {
     let (during, after) = match want {
         Some(n) => (serve(n, 0, 1_048_576), serve(16, n, 1_048_576)),
-        None => (Err(WordsFault::Usage), Err(WordsFault::Usage)),
+        None => (refused(), refused()),
     };
     let beside = ["serve", "--during", number, "--station=s"];
     asks(rt, alloc, &beside, during);
@@ -296,7 +304,7 @@ fn has_limits(rt: &impl Abort, alloc: Global, text: &str, limit: Option<u32>) {
     let words = ["serve", "--station=s", "--limit", text];
     let said = match limit {
         Some(limit) => serve(16, 0, limit),
-        None => Err(WordsFault::Usage),
+        None => refused(),
     };
     asks(rt, alloc, &words, said);
     has_limit(rt, alloc, &words, limit);

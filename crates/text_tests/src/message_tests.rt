@@ -1,11 +1,12 @@
 //! The messages on standard error, row by row.
 use crate::shared::{entry, same, same_for};
 use command_ends::{Ending, Known, Minutes, Outcome, Report, Subject};
+use command_words::{Fault, WordsFault, read_words};
 use host_links::Refusal;
 use journal_entry::What;
 use standard_error::{
     BadLine, Beginning, Detail, LeapRow, LineSeeker, Message, TomlFault, log_fault, no_minute_text,
-    read_arguments, row_fault, toml_fault,
+    row_fault, toml_fault,
 };
 use station_reader::read_station;
 use std::alloc::Global;
@@ -14,15 +15,6 @@ use tick_units::Kind;
 
 fn text_of(rt: &impl Abort, alloc: Global, text: &str) -> String {
     String::from_str(alloc, text).expect(rt, "no memory")
-}
-
-// The words of a text.
-fn words_of(rt: &impl Abort, alloc: Global, text: &str) -> Vec<String> {
-    let mut all = Vec::new(alloc);
-    for word in text.split_whitespace() {
-        all.push(text_of(rt, alloc, word)).expect(rt, "no memory");
-    }
-    all
 }
 
 fn written(rt: &impl Abort, alloc: Global, message: &Message<'_>) -> String {
@@ -46,10 +38,13 @@ fn said(
     refusal: Refusal,
     detail: Detail,
 ) -> String {
-    let all = words_of(rt, alloc, words);
-    let arguments = read_arguments(alloc, all.as_slice()).expect(rt, "no memory");
+    let mut all = Vec::new(alloc);
+    for word in words.split_whitespace() {
+        all.push(word).expect(rt, "no memory");
+    }
     let message = Message {
-        arguments: Some(arguments),
+        are_text: true,
+        asked: read_words(alloc, all.as_slice()),
         outcome,
         refusal: Some(refusal),
         detail,
@@ -142,7 +137,7 @@ fn ends(rt: &impl Abort, alloc: Global, words: &str, ending: Ending, text: &str)
 #[test]
 fn each_ending_of_a_file_has_its_sentence(rt: HostRuntime) {
     let alloc = rt.alloc();
-    let log = "decode --log a.log";
+    let log = "decode --plan dcf --log a.log";
     let text = "cannot open the log (a.log): there is no such file";
     ends(&rt, alloc, log, Ending::NotOpened(Subject::Feed(0)), text);
     let text = "line 2 of the log (a.log) is bad: a line is START WIDTH";
@@ -153,7 +148,7 @@ fn each_ending_of_a_file_has_its_sentence(rt: HostRuntime) {
         Ending::WrongLine(Subject::Feed(0), 2),
         text,
     );
-    let script = "replay --script c";
+    let script = "replay --station s --script c";
     let text = "cannot read the script (c): it is a folder";
     ends(&rt, alloc, script, Ending::NotRead(Subject::Script), text);
     let text = "line 7 of the script (c) is bad: man radio_ntpd has the lines of a script,";
@@ -209,7 +204,7 @@ fn a_file_that_is_too_long_has_its_limit(rt: HostRuntime) {
     ends(
         &rt,
         alloc,
-        "replay --script c",
+        "replay --station s --script c",
         Ending::Long(Subject::Script),
         text,
     );
@@ -217,7 +212,7 @@ fn a_file_that_is_too_long_has_its_limit(rt: HostRuntime) {
     ends(
         &rt,
         alloc,
-        "migrate --journal d",
+        "migrate --station s --journal d",
         Ending::Long(Subject::Journal),
         text,
     );
@@ -225,7 +220,7 @@ fn a_file_that_is_too_long_has_its_limit(rt: HostRuntime) {
     ends(
         &rt,
         alloc,
-        "decode --log a.log",
+        "decode --plan dcf --log a.log",
         Ending::Long(Subject::Feed(0)),
         text,
     );
@@ -388,7 +383,14 @@ fn a_bad_line_is_shown(rt: HostRuntime) {
     let alloc = rt.alloc();
     let line = bad(&rt, alloc, Some("it is odd"));
     let outcome = outcome_of(Report::Ended(Ending::WrongLine(Subject::Feed(0), 9)));
-    let found = said(&rt, alloc, "decode --log l", outcome, Refusal::Other, line);
+    let found = said(
+        &rt,
+        alloc,
+        "decode --plan dcf --log l",
+        outcome,
+        Refusal::Other,
+        line,
+    );
     let text = "radio_ntpd: line 9 of the log (l) is bad: it is odd: '1 2.5'\n";
     same(&rt, found.as_str(), text);
     let line = bad(&rt, alloc, Some("it is odd"));
@@ -408,7 +410,8 @@ fn a_bad_line_is_shown(rt: HostRuntime) {
 #[test]
 fn arguments_that_are_no_text_are_reported(rt: HostRuntime) {
     let message = Message {
-        arguments: None,
+        are_text: false,
+        asked: Err(WordsFault::Usage(Fault::NoArguments)),
         outcome: outcome_of(Report::Ended(Ending::WrongWords)),
         refusal: None,
         detail: Detail::Nothing,

@@ -1,9 +1,5 @@
 -- Each receiver that is put in the rack is a blank one, since its `new` says so of what is boxed; and four of each plan are a rack.
-use Rattle.std.proofs.Common.{◌≡◌, ◌∙◌, ℕ, List, map, ap, refl, sym, subst, inl, inr, arith, rules}
-use Rattle.std.specs.String.{string_bytes}
-use Rattle.command_ends.specs.Effects.{effect_of}
-use Rattle.command_ends.specs.Reports.{status_in}
-use Rattle.radio_engine.specs.Run.{IsRun}
+use Rattle.std.proofs.Common.{◌≡◌, refl, sym, subst, inl, inr, arith, rules}
 use denote.Param.Object.{read_made}
 use Rattle.tick_units.specs.declared.marks.Plan.TheVariants.{Dcf, Msf, Wwvb}
 use Rattle.radio_receiver.specs.Histories.{History, blank_of}
@@ -41,9 +37,7 @@ run_to_outcome-requires-clause-rack g c κs within =
     search rules
 
 pub returns : goal.returns
-returns g c =
-    let same : map (λ t. t.now) c.as_slice.result.now ≡ map (λ w. string_bytes w) c.args.arguments.now = ap (λ ts. map (λ t. t.now) ts) c.as_slice.ensures.value ∙ c.in_ok-texts.ensures in (
-      subst (λ (arguments : List (List ℕ)). IsRun arguments (effect_of (g.O.Outside.state c.args.outside.now) (g.O.Outside.state c.run_to_outcome.new.outside) (g.K.Sink.state c.args.out.now) (g.K.Sink.state c.run_to_outcome.new.out) (status_in c.run_to_outcome.result.report))) same
-          (record { refused = c.run_to_outcome.ensures.refused; runs = c.run_to_outcome.ensures.runs; complete = c.run_to_outcome.ensures.complete }),
-      c.run_to_outcome.ensures.reports,
-    )
+returns g c = (
+  record { refused = c.run_to_outcome.ensures.refused; runs = c.run_to_outcome.ensures.runs; complete = c.run_to_outcome.ensures.complete },
+  c.run_to_outcome.ensures.reports,
+)

@@ -11,8 +11,8 @@ use Rattle.radio_ntpd.proofs.run_given.Goals as goal
 pub returns-in-Err-clause-run : goal.returns-in-Err-clause-run
 returns-in-Err-clause-run g c = rw c.in-Ok.is (run_unbegun _ _ (record {
   unchanged = c.in-Err.ensures.0;
-  written = subst (λ (s : SinkState). Answers (status_of NoMemory) (status_in c.end_without_memory-in-Err.result.report) s (g.K.Sink.state c.end_without_memory-in-Err.new.out) (status_line NoMemory)) c.in-Err.ensures.1 c.end_without_memory-in-Err.ensures.answers;
+  written = subst (λ (s : SinkState). Answers (status_of NoMemory) (status_in c.lacking-in-Err.result.outcome.report) s (g.K.Sink.state c.lacking-in-Err.new.out) (status_line NoMemory)) c.in-Err.ensures.1 c.lacking-in-Err.ensures.answers;
 }))
 
 pub returns-in-Err-clause-reports : goal.returns-in-Err-clause-reports
-returns-in-Err-clause-reports g c = subst (λ (s : SinkState). Reports c.end_without_memory-in-Err.result.report s (g.K.Sink.state c.end_without_memory-in-Err.new.out)) c.in-Err.ensures.1 c.end_without_memory-in-Err.ensures.reports
+returns-in-Err-clause-reports g c = subst (λ (s : SinkState). Reports c.lacking-in-Err.result.outcome.report s (g.K.Sink.state c.lacking-in-Err.new.out)) c.in-Err.ensures.1 c.lacking-in-Err.ensures.reports

@@ -1,5 +1,5 @@
 -- What the search leaves open of `run::run_station`: its status is that of what came of the command.
-use Rattle.std.proofs.Common.{◌⊎◌, List, ℕ, map, subst, sym}
+use Rattle.std.proofs.Common.{◌⊎◌, map, subst, sym}
 use Rattle.command_words.specs.Commands.{Asked, AskFor}
 use Rattle.outside_traits.specs.Faults.{Rose}
 use Rattle.command_ends.specs.Effects.{Effect, effect_of}
