@@ -61,7 +61,7 @@ class Tiny:
             host.close(one)
 
     def turn(self) -> bool:
-        self.host.wait({self.source, self.run.ended} - set(self.ended), 0.025)
+        self.host.wait({self.source} - set(self.ended), 0.025)
         self.host.notify("WATCHDOG=1")
         if 15 in self.host.signals():
             self.host.close(self.end)

@@ -17,6 +17,7 @@ from keeper.supervisor.sources import Ended, Source, source_of
 LEAST_BOUND = 0.005  # the least root dispersion that a radio has (s)
 EARLY_BOUND = 0.945  # at the fourth verdict a radio's root dispersion may be so great (s)
 RAW_BOUND = 0.05  # up to this bound marks need not be steadied (s)
+LOOK = 0.05  # how often a source is looked at (s)
 MOST = 1 << 20  # bytes that are looked at of a radio; a source that writes more writes noise
 
 
@@ -106,12 +107,14 @@ def hear(settings: config.Settings, place: int, seconds: int) -> list[Finding]:
 
 def pieces(host: Host, source: Source, seconds: float) -> Iterator[tuple[int, bytes]]:
     """What a source writes within a number of seconds, each piece with when it came (us of the
-    monotonic clock); b"" where nothing came for a fifth of a second. Raises OSError and Ended."""
-    end = time.monotonic() + seconds
+    monotonic clock); b"" where nothing came. Raises OSError and Ended."""
+    end, piece = time.monotonic() + seconds, b""
     source.begin()
     try:
         while (wait := end - time.monotonic()) > 0:
-            host.wait([source.awaits] if source.awaits >= 0 else [], min(wait, 0.2))
-            yield time.monotonic_ns() // 1000, source.read()
+            if not piece:
+                host.wait([], min(wait, LOOK))
+            at, piece = time.monotonic_ns() // 1000, source.read()
+            yield at, piece
     finally:
         source.close()

@@ -7,9 +7,10 @@ from concurrent.futures import Future
 
 from checks.simulation.host_links import HostLinks
 from checks.simulation.machine import Machine
-from checks.simulation.processes import Ended, Process
+from checks.simulation.processes import Process
 from checks.simulation.world import Killed
 from keeper.config import Settings
+from keeper.errors import Fault
 from keeper.supervisor.host import Child, Task, do
 
 TURN = 0.0251  # the loop waits no longer (s)
@@ -72,7 +73,7 @@ class SimHost(HostLinks):
             if world.changed:
                 world.changed = False
                 found = {one for one, opened in watched if opened.readable()}
-                if found or self.came:
+                if found:
                     break
             if world.next_due() > until:
                 world.now = until
@@ -134,8 +135,12 @@ class SimHost(HostLinks):
             self._plan()
 
     def settings(self, path: str) -> Future[Settings]:
-        self.enter("spawn")
         task: Future[Settings] = Future()
+        try:
+            self.enter("spawn")
+        except OSError as error:
+            task.set_exception(Fault(f"the files can't be judged: {error.strerror}"))
+            return task
         found, after = self.machine.judged()
         if isinstance(found, Exception):
             self.world.at(after, task.set_exception, found)
@@ -156,24 +161,23 @@ class SimHost(HostLinks):
         table = {place: self.at(one).take() for place, one in given}
         process = self.machine.spawn(words, table, environment or {})
         self.family[process.pid] = process, gentle
-        return Child(process.pid, self.add(Ended(process)))
+        return process.pid
 
     def status(self, child: Child) -> int | None:
-        process = self.family[child.pid][0]
+        process = self.family[child][0]
         return None if process.alive else process.status
 
     def kill(self, child: Child, number: int) -> None:
         self.enter("kill")
-        if child.pid not in self.family:
-            self.judge.found("a signal to what was released", str(child.pid))
+        if child not in self.family:
+            self.judge.found("a signal to what was released", str(child))
             return
-        self.family[child.pid][0].got(number)
+        self.family[child][0].got(number)
 
     def release(self, child: Child) -> None:
         self.enter("release")
-        process, _ = self.family.pop(child.pid)
+        process, _ = self.family.pop(child)
         process.got(9)
-        self.close(child.ended)
 
     # systemd
 

@@ -16,7 +16,7 @@ from keeper.errors import Fault
 AGAIN = 1.0  # after which systemd starts it again (s)
 CALM = 100.0  # without a fault before the end (s)
 ENDS = 15.0  # within which it ends then (s)
-OPEN, EACH = 18, 6  # descriptors that it has at most: its own, and for each radio
+OPEN, EACH = 12, 5  # descriptors that it has at most: its own, and for each radio
 
 
 class Turns(Protocol):

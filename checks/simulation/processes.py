@@ -80,16 +80,6 @@ class Process:
                 one.drop()
 
 
-class Ended(Open):
-    """The descriptor that can be read once a process has ended."""
-
-    def __init__(self, process: Process) -> None:
-        self.process = process
-
-    def readable(self) -> bool:
-        return not self.process.alive
-
-
 class Dull(Process):
     """A program that can't be run to any use: it ends at once with 127."""
 

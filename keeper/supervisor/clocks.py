@@ -8,7 +8,6 @@ AWAKE = 0.01  # sleeps that are shorter together are none (s)
 LEAST = 2.0  # what the clock is set by less than this moves nothing (s); a slew is none
 READINGS = 5
 INSTALLED, PACKAGED = "/usr/local/lib/radio_ntpd/", "/usr/lib/radio_ntpd/"
-LATE = 0.5  # of the time since the look before no more counts (s)
 
 
 def slept(host: Host) -> float:
@@ -55,20 +54,6 @@ class Clocks:
         return self.ahead - before if abs(self.ahead - before) >= LEAST else 0.0
 
 
-class Looks:
-    """Seconds by our own looks: one that came late counts for LATE at most, since we were stopped
-    or starved, which is no evidence against a run."""
-
-    seconds = 0.0
-
-    def __init__(self, now: float) -> None:
-        self.last = now
-
-    def look(self, now: float) -> None:
-        self.seconds += min(now - self.last, LATE)
-        self.last = now
-
-
 class Pause:
     """A pause that doubles each time, from its least to its greatest length (s). `until` is its end
     (monotonic s)."""
@@ -79,7 +64,7 @@ class Pause:
         self.bounds = least, most
 
     def begin(self, now: float) -> float:
-        """Its length (s)."""
+        """Begins it; its length (s)."""
         self.span = min(max(self.span * 2, self.bounds[0]), self.bounds[1])
         self.until = now + self.span
         return self.span

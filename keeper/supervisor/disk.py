@@ -5,6 +5,7 @@ import errno
 import logging
 import os
 import time
+from collections.abc import Iterator
 
 from keeper.supervisor.host import Host
 
@@ -31,7 +32,6 @@ class Note:
 
 
 def written(what: str) -> Note:
-    """A note on what is written to a disk."""
     return Note(f"{what} can't be written", f"{what} can be written again")
 
 
@@ -45,10 +45,19 @@ def day_of(unix: float) -> str:
     return time.strftime("%Y%m%d", time.gmtime(unix))
 
 
+@contextlib.contextmanager
+def opened(host: Host, path: str, flags: int, mode: int = 0o640) -> Iterator[int]:
+    """A file's descriptor. Raises OSError."""
+    descriptor = host.open(path, flags, mode)
+    try:
+        yield descriptor
+    finally:
+        host.close(descriptor)
+
+
 def read_all(host: Host, path: str, most: int, from_end: bool = False) -> bytes:
     """A file's bytes: at most `most` of its beginning, or of its end. Raises OSError."""
-    descriptor = host.open(path, os.O_RDONLY | os.O_NOFOLLOW)
-    try:
+    with opened(host, path, os.O_RDONLY | os.O_NOFOLLOW) as descriptor:
         size = host.stat(descriptor).st_size
         place, pieces = max(0, size - most) if from_end else 0, []
         end = min(size, place + most)
@@ -56,8 +65,6 @@ def read_all(host: Host, path: str, most: int, from_end: bool = False) -> bytes:
             pieces.append(piece)
             place += len(piece)
         return b"".join(pieces)
-    finally:
-        host.close(descriptor)
 
 
 def write_all(host: Host, descriptor: int, data: bytes) -> None:
@@ -74,14 +81,12 @@ def put(host: Host, path: str, data: bytes, mode: int = 0o644, sync: bool = True
     """Puts a file in its place: whole, or not at all. Raises OSError, and then leaves nothing."""
     part = path + PART
     remove_any(host, part)  # of one that was killed, or somebody else's link
-    descriptor = host.open(part, os.O_WRONLY | os.O_CREAT | os.O_EXCL | os.O_NOFOLLOW, mode)
     try:
-        try:
+        flags = os.O_WRONLY | os.O_CREAT | os.O_EXCL | os.O_NOFOLLOW
+        with opened(host, part, flags, mode) as descriptor:
             write_all(host, descriptor, data)
             if sync:
                 host.sync(descriptor)
-        finally:
-            host.close(descriptor)
         host.rename(part, path)
     except OSError:
         with contextlib.suppress(OSError):
@@ -92,7 +97,6 @@ def put(host: Host, path: str, data: bytes, mode: int = 0o644, sync: bool = True
 
 
 def remove_any(host: Host, path: str) -> None:
-    """Removes a name that may be there."""
     with contextlib.suppress(FileNotFoundError):
         host.remove(path)
 

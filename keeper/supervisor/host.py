@@ -1,11 +1,9 @@
-"""All that the supervisor asks of the outside goes through `Host`: clocks, processes, pipes,
-sockets, files, signals. checks/simulation has one that overrides each public method, and drives
-`Supervisor.turn` in virtual time. Both keep these rules:
+"""All that the supervisor asks of the outside goes through `Host`. checks/simulation has one that
+overrides each public method, and drives `Supervisor.turn` in virtual time. Both keep these rules:
 
 - Only `wait` lets time pass on purpose. All else answers at once, but for the files' calls, which a
   slow disk may hold up: the supervisor's loop makes none of them but on the runtime folder (RAM),
-  on sources, and before it serves. Those on the state folder are made by jobs that are given to
-  `aside`.
+  on sources, and before it serves. Jobs that are given to `aside` make those on the state folder.
 - A call that the host refuses raises OSError with its `errno`. BlockingIOError says that there is
   nothing to read or no room now. EINTR is never seen. Nothing else is raised.
 - Our descriptors never wait, and no child has them but those that it is handed.
@@ -14,7 +12,6 @@ sockets, files, signals. checks/simulation has one that overrides each public me
 
 import array
 import contextlib
-import errno
 import fcntl
 import logging
 import os
@@ -28,12 +25,12 @@ import sys
 import termios
 import threading
 import time
-from collections.abc import Callable, Iterable, Mapping, Sequence
+from collections.abc import Callable, Iterable, Iterator, Mapping, Sequence
 from concurrent.futures import Future
-from dataclasses import dataclass
 from typing import TypeVar
 
 from keeper import config
+from keeper.errors import Fault
 
 Result = TypeVar("Result")
 ROOM = 1 << 20  # bytes that a pipe to a child holds where the host lets it
@@ -50,16 +47,7 @@ LAUNCH = """life=$1 first=$2 rest=$3; shift 3
 exec "$@\""""
 
 Task = Future[None]  # a job that was given to `aside`
-
-
-@dataclass(frozen=True)
-class Child:
-    """A process that was started: the leader of a session and group of its own. `ended` is a
-    descriptor that can be read (by `wait`, never by `read`) once the process has ended; it stays
-    open until `release`."""
-
-    pid: int
-    ended: int
+Child = int  # a process that was started: the leader of a session and group of its own
 
 
 class Host:
@@ -73,7 +61,6 @@ class Host:
         self.released: list[subprocess.Popen[bytes]] = []
         self.came: list[int] = []  # signals
         self.has_terminal = os.isatty(2)
-        self.woken, self.wakes = os.pipe2(os.O_NONBLOCK | os.O_CLOEXEC)
         self.life, self.alive = os.pipe2(os.O_CLOEXEC)  # `life` has an end once we have died
         signal.signal(signal.SIGCHLD, signal.SIG_DFL)  # else nobody knows how a child ended
         self.jobs: queue.SimpleQueue[tuple[Task, Callable[[], None]]] = queue.SimpleQueue()
@@ -109,23 +96,17 @@ class Host:
             return None
 
     def boot(self) -> str:
-        """The identifier of this boot of the host."""
         with open("/proc/sys/kernel/random/boot_id", encoding="ascii") as file:
             return file.read().strip()
 
     # Waiting
 
     def wait(self, readers: Iterable[int], seconds: float) -> set[int]:
-        """Waits until one of these can be read (data, an end, an ended child), a signal came, or
-        the seconds have passed. Those that can be read now. A FIFO without a writer that never had
-        one can't be read."""
+        """Those that can be read, once one can or the seconds have passed."""
         poll = select.poll()
-        for one in (self.woken, *readers):
+        for one in readers:
             poll.register(one, select.POLLIN)
-        found = {one for one, _ in poll.poll(max(0.0, seconds) * 1000)}
-        if self.woken in found:
-            self.came += os.read(self.woken, 4096)
-        return found - {self.woken}
+        return {one for one, _ in poll.poll(max(0.0, seconds) * 1000)}
 
     def signals(self) -> list[int]:
         """The signals of `take_signals` that came since the last call, in their order. A terminal
@@ -146,13 +127,13 @@ class Host:
             do(*self.jobs.get())
 
     def settings(self, path: str) -> Future[config.Settings]:
-        """Has a thread of its own read both files, and ask the program about them. It raises Fault
-        where they are refused."""
+        """Has a thread of its own read both files, and ask the program about them. The task has a
+        Fault where they are refused, or can't be judged."""
         task: Future[config.Settings] = Future()
         try:
             threading.Thread(target=do, args=(task, lambda: judged(path)), daemon=True).start()
         except RuntimeError as error:
-            raise OSError(errno.EAGAIN, str(error)) from error
+            task.set_exception(Fault(f"the files can't be judged: {error}"))
         return task
 
     # Processes. None outlives us: where we die, whatever the way, each is sent SIGTERM (one that is
@@ -165,46 +146,36 @@ class Host:
         ours, -1 for none (/dev/null), 2 for our own standard error. It has those of `handed` under
         the same numbers. `environment` is added to ours."""
         if "/" in words[0] and not os.access(words[0], os.X_OK):
-            code = errno.EACCES if os.path.exists(words[0]) else errno.ENOENT
-            raise OSError(code, os.strerror(code), words[0])
+            os.stat(words[0])  # or it isn't there
+            raise PermissionError(13, "Permission denied", words[0])
         first, rest = ("0", "2") if gentle else ("TERM", "1")
         given, out, errors = (subprocess.DEVNULL if one < 0 else one for one in standard)
         process = subprocess.Popen(
             ["/bin/sh", "-c", LAUNCH, "sh", str(self.life), first, rest, *words],
             stdin=given, stdout=out, stderr=errors, pass_fds=(*handed, self.life),
             env={**os.environ, **(environment or {})}, start_new_session=True)
-        try:
-            ended = os.pidfd_open(process.pid)
-        except OSError:
-            os.killpg(process.pid, signal.SIGKILL)
-            process.wait()
-            raise
         self.children[process.pid] = process
-        return Child(process.pid, ended)
+        return process.pid
 
     def status(self, child: Child) -> int | None:
-        """How it ended: its exit status, the signal's number with a minus sign, or None while it
-        lives."""
+        """Its exit status, the signal's number with a minus sign, or None while it lives."""
         # It isn't taken from the host yet, so that its number stays its own for `kill`.
         how = os.WEXITED | os.WNOHANG | os.WNOWAIT
-        found: os.waitid_result | None = os.waitid(os.P_PID, child.pid, how)
+        found: os.waitid_result | None = os.waitid(os.P_PID, child, how)
         if found is None:
             return None
         return found.si_status if found.si_code == os.CLD_EXITED else -found.si_status
 
     def kill(self, child: Child, number: int) -> None:
-        """Sends a signal to the whole group of a child that wasn't released. Nothing is refused:
-        who is gone is gone."""
+        """Sends a signal to the whole group of a child that wasn't released. Nothing is refused."""
         with contextlib.suppress(ProcessLookupError, PermissionError):
-            os.killpg(child.pid, number)
+            os.killpg(child, number)
 
     def release(self, child: Child) -> None:
-        """Kills what is left of its group, takes its exit status from the host, and closes `ended`.
-        It must be the last call."""
+        """The last call: kills what is left of its group, and takes its status from the host."""
         self.kill(child, signal.SIGKILL)
-        os.close(child.ended)
         # One that isn't gone yet, as where it waits for a disk, is collected at a later call.
-        self.released = [one for one in (*self.released, self.children.pop(child.pid))
+        self.released = [one for one in (*self.released, self.children.pop(child))
                          if one.poll() is None]
 
     # Descriptors and pipes
@@ -224,8 +195,7 @@ class Host:
         return ours, theirs
 
     def pair(self) -> tuple[int, int]:
-        """Two ends of a stream socket: ours and one for children. Theirs has an end once ours is
-        closed, or we have died."""
+        """A stream socket's ends: ours, and a child's, which has an end once ours is closed."""
         ours, theirs = socket.socketpair()
         return ours.detach(), theirs.detach()
 
@@ -252,8 +222,7 @@ class Host:
     # UDP over IPv4
 
     def handed_over(self) -> list[int]:
-        """The sockets that systemd hands over (LISTEN_FDS), each once; none that isn't UDP over
-        IPv4."""
+        """The sockets that systemd hands over (LISTEN_FDS), once; none that isn't UDP over IPv4."""
         names = ("LISTEN_PID", "LISTEN_FDS", "LISTEN_FDNAMES")
         owner, count, _ = (os.environ.pop(name, "") for name in names)
         if owner != str(os.getpid()) or not count.isdecimal():
@@ -270,8 +239,7 @@ class Host:
             return link.detach()
 
     def port_of(self, descriptor: int) -> int:
-        """The port that a socket is bound to."""
-        with socket.socket(fileno=os.dup(descriptor)) as link:
+        with borrowed(descriptor) as link:
             return int(link.getsockname()[1])
 
     def client(self, own: str, port: int) -> int:
@@ -285,39 +253,32 @@ class Host:
     def queue(self, descriptor: int) -> tuple[int, int]:
         """What waits in a socket (bytes, with the host's own overhead), and how many datagrams
         found no room since it was made."""
-        link = socket.socket(socket.AF_INET, socket.SOCK_DGRAM, 0, descriptor)
-        try:
+        with borrowed(descriptor) as link:
             numbers = array.array("I", link.getsockopt(socket.SOL_SOCKET, SO_MEMINFO, 36))
-        finally:
-            link.detach()
         # QEMU's user emulation gives fewer numbers, and then none is known to be dropped.
         return numbers[0], numbers[8] if len(numbers) > 8 else 0
 
-    # Files. What was written is on the disk after `sync` of its descriptor, and its name after
-    # `sync` of its folder.
+    # Files, as `os` has them. What was written is on the disk after `sync` of its descriptor, and
+    # its name after `sync` of its folder.
 
     def open(self, path: str, flags: int, mode: int = 0o640) -> int:
-        """As os.open with os.O_* flags; never waits for a FIFO's other end."""
+        """Never waits for a FIFO's other end."""
         return os.open(path, flags | os.O_CLOEXEC | os.O_NONBLOCK, mode)
 
     def read_at(self, descriptor: int, most: int, place: int) -> bytes:
-        """Bytes of a file from a place on."""
         return os.pread(descriptor, most, place)
 
     def truncate(self, descriptor: int, size: int) -> None:
-        """Cuts a file off."""
         os.ftruncate(descriptor, size)
 
     def sync(self, what: int | str) -> None:
         """Returns when a file's content, or the names in a folder, are on the disk."""
-        if isinstance(what, int):
-            os.fsync(what)
-            return
-        descriptor = os.open(what, os.O_RDONLY | os.O_DIRECTORY | os.O_CLOEXEC)
+        descriptor = what if isinstance(what, int) else os.open(what, os.O_DIRECTORY | os.O_CLOEXEC)
         try:
             os.fsync(descriptor)
         finally:
-            os.close(descriptor)
+            if descriptor != what:
+                os.close(descriptor)
 
     def lock(self, descriptor: int) -> None:
         """Takes a file's lock for as long as this descriptor is open. BlockingIOError where another
@@ -325,23 +286,18 @@ class Host:
         fcntl.flock(descriptor, fcntl.LOCK_EX | fcntl.LOCK_NB)
 
     def stat(self, what: int | str) -> os.stat_result:
-        """Of a descriptor or a name. FileNotFoundError where there is none."""
         return os.stat(what)
 
     def names(self, folder: str) -> list[str]:
-        """The names in a folder, sorted."""
         return sorted(os.listdir(folder))
 
     def rename(self, old: str, new: str) -> None:
-        """Puts a file in the place of another one, or of none, at once."""
         os.replace(old, new)
 
     def remove(self, path: str) -> None:
-        """Removes a name."""
         os.unlink(path)
 
     def make_folder(self, path: str) -> None:
-        """Makes a folder and those above it, where they aren't there."""
         os.makedirs(path, exist_ok=True)
 
     # systemd
@@ -353,6 +309,24 @@ class Host:
                 with socket.socket(socket.AF_UNIX, socket.SOCK_DGRAM) as out:
                     out.setblocking(False)
                     out.sendto(text.encode(), self.notified)
+
+
+@contextlib.contextmanager
+def borrowed(descriptor: int) -> Iterator[socket.socket]:
+    """A socket that stays open afterwards. Raises OSError where it is none."""
+    link = socket.socket(fileno=descriptor)
+    try:
+        yield link
+    finally:
+        link.detach()
+
+
+def _is_udp(descriptor: int) -> bool:
+    try:
+        with borrowed(descriptor) as link:
+            return link.family == socket.AF_INET and link.type == socket.SOCK_DGRAM
+    except OSError:
+        return False
 
 
 def judged(path: str) -> config.Settings:
@@ -371,36 +345,25 @@ def do(task: Future[Result], job: Callable[[], Result]) -> None:
 
 
 def take_signals(host: Host) -> None:
-    """From now on SIGTERM, SIGINT and SIGHUP are for `signals`: Python writes their numbers."""
-    signal.set_wakeup_fd(host.wakes, warn_on_full_buffer=False)
+    """From now on SIGTERM, SIGINT and SIGHUP are for `signals`."""
     for number in (signal.SIGTERM, signal.SIGINT, signal.SIGHUP):
-        signal.signal(number, lambda *_: None)
+        signal.signal(number, lambda came, _: host.came.append(came))
 
 
 class Sentences(logging.Handler):
     """Each record is a sentence for the operator, on standard error: with its level where systemd
-    takes it, else with the time of day. It is left out where standard error takes nothing now."""
-
-    stamped = "JOURNAL_STREAM" not in os.environ
+    takes it, else with the time of day. It is left out where standard error takes nothing now: a
+    pipe whose reader stands still would hold the loop up."""
 
     def emit(self, record: logging.LogRecord) -> None:
-        clock = time.strftime("%H:%M:%S ", time.gmtime())
-        begin = clock if self.stamped else PREFIXES.get(record.levelno, "")
+        begin = time.strftime("%H:%M:%S ", time.gmtime())
+        if "JOURNAL_STREAM" in os.environ:
+            begin = PREFIXES.get(record.levelno, "")
         with contextlib.suppress(OSError, ValueError):  # nobody reads it
-            # A pipe whose reader stands still would hold the loop up.
             if select.select([], [sys.stderr], [], 0)[1]:
                 sys.stderr.write(f"{begin}{self.format(record)}\n")
                 sys.stderr.flush()
 
 
 def say() -> None:
-    """From now on what is logged is said."""
     logging.basicConfig(level=logging.INFO, format="%(message)s", handlers=[Sentences()])
-
-
-def _is_udp(descriptor: int) -> bool:
-    try:
-        with socket.socket(fileno=os.dup(descriptor)) as link:
-            return link.family == socket.AF_INET and link.type == socket.SOCK_DGRAM
-    except OSError:
-        return False

@@ -87,15 +87,11 @@ class Archive:
     def turn(self, now: float) -> None:
         """Hands on what waits."""
         if self.task and self.task.done():
-            fault = self.task.exception()
+            fault, self.task = self.task.exception(), None
             self.note.take(disk.why(fault) and f"{disk.why(fault)}; {len(self.waiting)} wait")
-            first = self.waiting[0]
-            if not fault:
-                self.waiting.pop(0)
-            if not fault and not first.name:
-                self._lose(first, "it isn't whole")
             self.due = now + AGAIN if fault else now
-            self.task = None
+            if not fault and not (first := self.waiting.pop(0)).name:
+                self._lose(first, "it isn't whole")
         if self.task is None and self.waiting and now >= self.due:
             first = self.waiting[0]
             self.task = self.host.aside(lambda: first.keep(self.folder))

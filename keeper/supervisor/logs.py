@@ -31,23 +31,24 @@ def cut(host: Host, descriptor: int) -> int:
     return kept
 
 
+def logs_of(host: Host, folder: str, begin: str = "", end: str = ".log") -> list[str]:
+    """The logs of a folder whose names begin and end so; none where it can't be read."""
+    with contextlib.suppress(OSError):
+        return [os.path.join(folder, name) for name in host.names(folder)
+                if name.startswith(begin) and name.endswith(end)]
+    return []
+
+
 def mend(host: Host, folder: str) -> None:
     """A job: cuts the logs of a folder, those of an earlier boot too. Who reads one finds whole
     lines alone."""
-    with contextlib.suppress(OSError):
-        for name in host.names(folder):
-            if name.endswith(".log"):
-                with contextlib.suppress(OSError):
-                    descriptor = host.open(os.path.join(folder, name), os.O_RDWR | os.O_NOFOLLOW)
-                    try:
-                        cut(host, descriptor)
-                    finally:
-                        host.close(descriptor)
+    for path in logs_of(host, folder):
+        with contextlib.suppress(OSError):
+            with disk.opened(host, path, os.O_RDWR | os.O_NOFOLLOW) as descriptor:
+                cut(host, descriptor)
 
 
 class PulseLog:
-    """The logs of one radio."""
-
     def __init__(self, host: Host, folder: str, number: int, plan: str, tag: str) -> None:
         self.host, self.folder = host, folder
         self.begin, self.end = f"{number}-{plan}.", f".{tag}.log"
@@ -111,13 +112,10 @@ class PulseLog:
         """Opens a log, whose folder may have been taken away."""
         self.host.make_folder(self.folder)
         flags = os.O_RDWR | os.O_APPEND | os.O_CREAT | os.O_NOFOLLOW
-        descriptor = self.host.open(os.path.join(self.folder, name), flags)
-        try:
+        with disk.opened(self.host, os.path.join(self.folder, name), flags) as descriptor:
             if not cut(self.host, descriptor):
                 self.host.sync(self.folder)
             yield descriptor
-        finally:
-            self.host.close(descriptor)
 
     def _append(self, descriptor: int, lines: bytes) -> bool:
         """Adds whole lines: all of them, or none. False where they have no room."""
@@ -136,15 +134,12 @@ class PulseLog:
         whatever day the host's clock had, so that a supervisor that was killed has the time at
         once. Called before it serves."""
         found: dict[int, Pulse] = {}
-        with contextlib.suppress(OSError):
-            for name in self.host.names(self.folder):
-                if name.startswith(self.begin) and name.endswith(self.end):
-                    with contextlib.suppress(OSError):
-                        path = os.path.join(self.folder, name)
-                        text = disk.read_all(self.host, path, TAIL, from_end=True)
-                        # Of a longer log the first line may be half a line.
-                        lines = text.split(b"\n")[len(text) == TAIL:-1]
-                        found |= {one.start: one for line in lines
-                                  if isinstance(one := reading(line), Pulse)}
+        for path in logs_of(self.host, self.folder, self.begin, self.end):
+            with contextlib.suppress(OSError):
+                text = disk.read_all(self.host, path, TAIL, from_end=True)
+                # Of a longer log the first line may be half a line.
+                lines = text.split(b"\n")[len(text) == TAIL:-1]
+                found |= {one.start: one for line in lines
+                          if isinstance(one := reading(line), Pulse)}
         now = int(self.host.monotonic() * 1e6)
         return [found[one] for one in sorted(found) if now - OLDEST <= one <= now]

@@ -58,13 +58,14 @@ class Pauses:
 
     def look(self) -> float:
         """For how long the host stood still (s), once that is certain; else 0.0."""
-        now = self.host.boottime()
-        if now < self.due:
+        before = self.host.boottime()
+        if before < self.due:
             return 0.0
-        self.due = now + LOOKS
-        read = self._read()
-        if read is None:
+        self.due = before + LOOKS
+        second, after = self.host.rtc(), self.host.boottime()
+        if second is None or after - before > AT_ONCE:
             return 0.0
+        read = Bounds(second - after, second + 1 - before, after)
         if self.known is not None and self.new is not None:
             narrowed = self.new.narrowed(read)
             self.new = narrowed if narrowed.least <= narrowed.most else read
@@ -76,14 +77,6 @@ class Pauses:
         else:
             self.new = read
         return 0.0
-
-    def _read(self) -> Bounds | None:
-        before = self.host.boottime()
-        second = self.host.rtc()
-        after = self.host.boottime()
-        if second is None or after - before > AT_ONCE:
-            return None
-        return Bounds(second - after, second + 1 - before, after)
 
     def _judged(self, known: Bounds, new: Bounds) -> float:
         """How long a pause was whose jump led to these new bounds (s)."""

@@ -34,6 +34,13 @@ class Outlet:
         except OSError:
             self.is_broken = True
 
+    def waits(self) -> bool:
+        """Whether its reader hasn't read all yet."""
+        try:
+            return bool(self.pending or self.host.unread(self.descriptor))
+        except OSError:
+            return True
+
     def close(self) -> None:
         self.host.close(self.descriptor)
         self.descriptor, self.pending = -1, b""

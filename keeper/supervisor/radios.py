@@ -16,7 +16,6 @@ from keeper.supervisor.sources import Ended, source_of
 from keeper.errors import sentence
 
 PAUSES = 1.0, 60.0  # the first and the longest pause before a source is begun again (s)
-LOOK = 0.1  # how often a source is looked at that can't be waited for (s)
 REPORT = 60.0  # bad lines are reported so often at most (s)
 
 log = logging.getLogger(__name__)
@@ -35,8 +34,7 @@ class Feed:
     `starting`, `running`, `stalled` (it is silent) or `waiting` (it ended, and is begun again).
     `pulse_at` is when the last pulse came, 0.0 for never. `silent_since` is since when none came,
     once that is its `stall`; 0.0 while they come. Both in seconds of CLOCK_BOOTTIME, since a sleep
-    is silence too. Beginning the source anew changes neither. `changed`: it fell silent, or gives
-    pulses again.
+    is silence too. Beginning the source anew changes neither.
 
     What steadies lives as long as the feed, and not as its source: the line of a receiver that is
     started again still holds, since the host's counter went on."""
@@ -52,10 +50,9 @@ class Feed:
         self.pause = Pause(*PAUSES)
         self.restarts = self.pulses = self.reported_bad = 0
         self.pulse_at = self.silent_since = 0.0
-        self.changed = False
         self.born = host.boottime()
         self.alive = host.monotonic()  # its last pulse, or its beginning
-        self.begun = self.looked = self.reported = 0.0  # the source (monotonic s)
+        self.begun = self.reported = 0.0  # the source (monotonic s)
 
     def _heard(self, pulses: list[Pulse]) -> list[Heard]:
         """These pulses, steadied; they are at hand from now on."""
@@ -72,36 +69,36 @@ class Feed:
             self.alive = self.lines.last / 1e6
             self.pulse_at = self.host.boottime() - self.host.monotonic() + self.alive
 
-    def turn(self, readable: set[int]) -> None:
+    def turn(self) -> None:
         """Does what is due. Whatever goes wrong in it ends this source alone, until it is begun
         again."""
         now = self.host.monotonic()
+        begins = self.state in ("waiting", "starting")
         try:
-            self._turn(readable, now)
+            if not begins:
+                self._read(now)
+            elif now >= self.pause.until:
+                self._begin(now)
             self._note_silence(now)
         except Ended as end:
             self._wait(now, str(end))
         except OSError as error:
-            begins = self.state in ("waiting", "starting")
-            said = f"{'opened: ' if begins else 'read: '}{sentence(error)}"
-            self._wait(now, f"its source can't be {said}")
+            said = "opened" if begins else "read"
+            self._wait(now, f"its source can't be {said}: {sentence(error)}")
         except Exception as error:  # whatever it is, the others go on
             log.exception("radio %d", self.number)
             self._wait(now, f"{type(error).__name__}: {error}")
 
-    def _turn(self, readable: set[int], now: float) -> None:
-        if self.state in ("waiting", "starting"):
-            if now < self.pause.until:
-                return
-            self.lines.begin()
-            self.source.begin()
-            self.state, self.begun = "stalled" if self.silent_since else "running", now
-        elif self.source.awaits in readable or self.source.awaits < 0 and now - self.looked >= LOOK:
-            self.looked = now
-            self._take(self.lines.take(self.source.read(), int(now * 1e6)), now)
-            self._report(now)
-        if now - max(self.alive, self.begun) > self.radio.stall:
-            self._stall(now)
+    def _begin(self, now: float) -> None:
+        self.lines.begin()
+        self.source.begin()
+        self.state, self.begun = "stalled" if self.silent_since else "running", now
+
+    def _read(self, now: float) -> None:
+        self._take(self.lines.take(self.source.read(), int(now * 1e6)), now)
+        self._report(now)
+        if now - max(self.alive, self.begun) > self.radio.stall and self.source.stalls():
+            self._wait(now, f"no pulse for {self.radio.stall:.0f} s")
 
     def _wait(self, now: float, why: str) -> None:
         """The source is begun again after a pause, which grows until a pulse comes."""
@@ -112,17 +109,12 @@ class Feed:
         self.state = "waiting"
         self.restarts += 1
 
-    def _stall(self, now: float) -> None:
-        """No pulse for long since the source was begun."""
-        if self.source.stalls():
-            self._wait(now, f"no pulse for {self.radio.stall:.0f} s")
-
     def _note_silence(self, now: float) -> None:
         """Says once that the radio is silent, however often its source begins meanwhile."""
         rests = self.state == "waiting"  # it was said why
         longest = now - self.alive if rests else now - max(self.alive, self.begun)
         if not self.silent_since and longest > self.radio.stall:
-            self.silent_since, self.changed = self.pulse_at or self.born, True
+            self.silent_since = self.pulse_at or self.born
             if not rests:
                 log.warning("radio %d: no pulse for %.0f s", self.number, self.radio.stall)
         if self.silent_since and self.state == "running":
@@ -134,8 +126,8 @@ class Feed:
         if self.silent_since:
             silent = self.host.boottime() - self.silent_since
             log.info("radio %d gives pulses again, after %.0f s", self.number, silent)
-            self.silent_since, self.changed = 0.0, True
-        self.alive, self.pulse_at, self.state = now, self.host.boottime(), "running"
+        self.alive, self.pulse_at, self.silent_since = now, self.host.boottime(), 0.0
+        self.state = "running"
         self.pause.reset()
         self.pulses += len(pulses)
         heard = self._heard(pulses)
@@ -151,7 +143,6 @@ class Feed:
                         "s" if new > 1 else "", self.lines.last_bad)
 
     def last_minutes(self) -> list[Heard]:
-        """The pulses of the last 15 minutes."""
         oldest = int(self.host.monotonic() * 1e6) - OLDEST
         return [one for one in self.recent if one.given.start >= oldest]
 

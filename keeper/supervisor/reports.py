@@ -28,70 +28,71 @@ PENDING = 1 << 18  # bytes that wait for the reporter; where there are more it h
 MOST = 4000  # pulses of a radio that one that begins is told: of noise there are more
 PAUSES = 1.0, 60.0  # before it is started again (s)
 END = 0.4  # within which it has to end: clients wait for the next keeper meanwhile (s)
+LOOK = 0.02  # how often it is looked at then (s)
 OF_SETTINGS = ("station", "folder", "program", "bound", "cycle", "days", "room", "servers",
                "leap_file")
+OF_RADIO = ("plan", "name", "delay", "steady", "origin", "stall")
+OF_FEED = ("number", "restarts", "pulses")
+OF_ANSWERS = ("leap", "stratum", "reference_id", "root_delay", "root_dispersion")
 
 log = logging.getLogger(__name__)
 
 
 class Reports:
-    """`folder` is the runtime folder. `facts` has what there is to tell now. `ends` is until when
-    the reporter may take to end, once it has been told all (monotonic s)."""
+    """`folder` is the runtime folder. `facts` has what there is to tell now."""
 
     def __init__(self, host: Host, folder: str, facts: Callable[[], Mapping[str, Any]]) -> None:
         self.host, self.folder, self.facts = host, folder, facts
+        self.path = os.path.join(folder, FACTS)
         self.child: Child | None = None
         self.pipe = Outlet(host, -1, PENDING)
         self.told_at = self.written_at = self.began = 0.0
         self.pause = Pause(*PAUSES)
-        self.note = disk.written(os.path.join(folder, FACTS))
-        self.ends: float | None = None
+        self.note = disk.written(self.path)
+        self.news: object = None  # what was told of last
 
     def paused_before(self) -> float:
         """When the host was paused, as the keeper before has told it (Unix s), 0.0 where it wasn't:
         what was received before that isn't read back. Where nobody knows it may just have been."""
         try:
-            told = json.loads(disk.read_all(self.host, os.path.join(self.folder, FACTS), LONGEST))
+            told = json.loads(disk.read_all(self.host, self.path, LONGEST))
             return float(told.get("paused", 0.0))
         except FileNotFoundError:
             return 0.0
         except (ArithmeticError, AttributeError, OSError, RecursionError, TypeError, ValueError):
             return self.host.realtime()
 
-    def awaits(self) -> list[int]:
-        return [self.child.ended] if self.child else []
-
     def heard(self, feed: Feed, heard: Sequence[Heard]) -> None:
-        """Pulses of a radio."""
         pulses = [[one.raw.start, one.raw.width, one.given.start] for one in heard]
         self._tell({"radio": feed.number, "pulses": pulses})
 
     def _tell(self, message: Mapping[str, Any]) -> None:
         self.pipe.give(json.dumps(message, separators=(",", ":")).encode() + b"\n")
 
-    def turn(self, feeds: Sequence[Feed], is_news: bool) -> None:
-        """Tells the facts, where they are due or news. A reporter that begins is told all."""
+    def turn(self, feeds: Sequence[Feed], news: object) -> None:
+        """Tells the facts, where they are due or the news have changed. A reporter that begins is
+        told all."""
         now = self.host.monotonic()
-        if self.ends is None:
-            self._look(feeds, now)
-        if not is_news and now - self.told_at < EVERY:
+        self._keep(feeds, now)
+        if news != self.news:
+            self.news, self.told_at, self.written_at = news, -EVERY, -WRITTEN
+        if now - self.told_at < EVERY:
             return
         self.told_at, facts = now, self.facts()
         self._tell({"facts": facts})
-        if is_news or now - self.written_at >= WRITTEN:
+        if now - self.written_at >= WRITTEN:
             self.written_at = now
-            self._write(json.dumps(facts).encode() + b"\n")
+            try:
+                disk.put(self.host, self.path, json.dumps(facts).encode() + b"\n", sync=False)
+                self.note.take("")
+            except OSError as error:
+                self.note.take(disk.why(error))
 
-    def _write(self, text: bytes) -> None:
-        try:
-            disk.put(self.host, os.path.join(self.folder, FACTS), text, sync=False)
-            self.note.take("")
-        except OSError as error:
-            self.note.take(disk.why(error))
-
-    def _look(self, feeds: Sequence[Feed], now: float) -> None:
-        """Sees whether the reporter is there."""
-        if self.child:
+    def _keep(self, feeds: Sequence[Feed], now: float) -> None:
+        """Has the reporter live, and take what it is told."""
+        if self.child is None and now >= self.pause.until:
+            self._start(feeds, now)
+        elif self.child:
             self.pipe.push()
             status = self.host.status(self.child)
             if status is not None:
@@ -100,14 +101,8 @@ class Reports:
                 self._lose("the reporter takes nothing", now)
             elif now - self.began > PAUSES[1]:
                 self.pause.reset()
-        elif now >= self.pause.until:
-            self._start(now)
-            if self.child:
-                self._tell({"facts": self.facts()})
-                for feed in feeds:
-                    self.heard(feed, feed.last_minutes()[-MOST:])
 
-    def _start(self, now: float) -> None:
+    def _start(self, feeds: Sequence[Feed], now: float) -> None:
         self.began, theirs = now, -1
         try:
             ours, theirs = self.host.outlet()
@@ -117,25 +112,27 @@ class Reports:
             self.child = self.host.spawn(words, standard=(theirs, -1, 2), environment=environment)
         except OSError as error:
             self._lose(f"the reporter can't be started: {error.strerror}", now)
+            return
         finally:
             self.host.close(theirs)
+        self._tell({"facts": self.facts()})
+        for feed in feeds:
+            self.heard(feed, feed.last_minutes()[-MOST:])
 
     def _lose(self, why: str, now: float) -> None:
         self.close()
         log.warning("%s; it is started again in %.0f s", why, self.pause.begin(now))
 
-    def end(self) -> None:
-        """It has been told all: it saves what it knows, and ends."""
-        self.ends = self.host.monotonic() + END
+    def end(self, feeds: Sequence[Feed]) -> None:
+        """Tells the last of it: the reporter saves what it knows, and ends, or isn't waited for."""
+        self.turn(feeds, "the end")
         self.pipe.close()
-
-    def has_ended(self) -> bool:
-        """Whether it has, or hangs and isn't waited for."""
-        is_late = self.ends is not None and self.host.monotonic() > self.ends
-        return is_late or self.child is None or self.host.status(self.child) is not None
+        until = self.host.monotonic() + END
+        while (self.child and self.host.status(self.child) is None
+               and self.host.monotonic() < until):
+            self.host.wait([], LOOK)
 
     def close(self) -> None:
-        """Nothing of it stays."""
         self.pipe.close()
         if self.child:
             self.host.release(self.child)
@@ -146,26 +143,26 @@ def facts_of(host: Host, settings: Settings, service: Service, feeds: Sequence[F
              began: float) -> dict[str, Any]:
     """What there is to tell, as JSON has it. Moments are Unix seconds by the clock as it stands,
     0.0 for never; spans are seconds. `began` is of CLOCK_BOOTTIME."""
-    unix = host.realtime()
-    shift, run = unix - host.monotonic(), service.serving
-    booted = unix - host.boottime()
-    facts: dict[str, Any] = {key: getattr(settings, key) for key in OF_SETTINGS}
-    return facts | {
+    unix, run = host.realtime(), service.serving
+    shift, booted = unix - host.monotonic(), unix - host.boottime()
+    return {key: getattr(settings, key) for key in OF_SETTINGS} | {
         "at": unix, "since": booted + began, "pid": os.getpid(),
         "alarms": dataclasses.asdict(settings.alarms),
         "run": {
             "number": run.number if run else 0,
             "since": run.began + shift if run and run.began else 0.0,
-            "cause": run.cause if run else "", "pid": run.child.pid if run else 0,
+            "cause": run.cause if run else "", "pid": run.child if run else 0,
             "last_status": service.last.status, "last_journal": service.last.name},
         "links": [_link(link, service, shift, unix) for link in service.watch.links],
-        "radios": [{
-            "number": feed.number, "plan": feed.radio.plan, "name": feed.radio.name,
-            "delay": feed.radio.delay, "steady": feed.radio.steady, "origin": feed.radio.origin,
-            "source": feed.state, "restarts": feed.restarts, "pulses": feed.pulses,
-            "bad_lines": feed.lines.bad, "last_bad": feed.lines.last_bad,
-            "stall": feed.radio.stall, "pulse_at": feed.pulse_at and feed.pulse_at + booted,
-            "silent_since": feed.silent_since and feed.silent_since + booted} for feed in feeds]}
+        "radios": [_radio(feed, booted) for feed in feeds]}
+
+
+def _radio(feed: Feed, booted: float) -> dict[str, Any]:
+    told = {key: getattr(feed.radio, key) for key in OF_RADIO}
+    return told | {key: getattr(feed, key) for key in OF_FEED} | {
+        "source": feed.state, "bad_lines": feed.lines.bad, "last_bad": feed.lines.last_bad,
+        "pulse_at": feed.pulse_at and feed.pulse_at + booted,
+        "silent_since": feed.silent_since and feed.silent_since + booted}
 
 
 def _link(link: Link, service: Service, shift: float, unix: float) -> dict[str, Any]:
@@ -175,8 +172,6 @@ def _link(link: Link, service: Service, shift: float, unix: float) -> dict[str, 
             "requests": requests, "requests_per_second": rate}
     if (said := link.last) is None:
         return told
-    return told | {
-        "leap": said.leap, "stratum": said.stratum, "reference_id": said.reference_id,
-        "root_delay": said.root_delay, "root_dispersion": said.root_dispersion,
+    return told | {key: getattr(said, key) for key in OF_ANSWERS} | {
         "reference_time": unix_of(said.reference, unix), "came": link.came_unix,
         "offset": link.offset if said.has_time() else 0.0}

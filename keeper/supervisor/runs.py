@@ -10,17 +10,16 @@ from collections.abc import Sequence
 
 from keeper.config import Settings
 from keeper.station import text_of
+from keeper.supervisor import disk
 from keeper.supervisor.pipes import Outlet
 from keeper.supervisor.host import Child, Host
 from keeper.supervisor.journals import OUT, name_of
 from keeper.supervisor.radios import Feed, Heard
-from keeper.errors import ended, reason
 
 HEARINGS = 1_000_000  # the most that `serve` takes
 POLLS = 100_000  # the most that a station takes
 LINKS = 8  # the most links of a station
 PENDING = 1 << 20  # bytes that wait for a pipe that is full; more says that nobody reads it
-SENTENCES = 4096  # of what it says on its standard error, in bytes
 HUNG = 2.0  # one that reads no pulse for so long hangs (s)
 BEGINS = 10.0  # the same of one that has read none yet: a busy host takes long to start it (s)
 LOCAL = "127.0.0.1"
@@ -41,7 +40,6 @@ class Run:
     read_at: float | None = None  # since when it has been behind, by our looks (s)
     ends_at = 0.0  # when it was told to end, by our looks (s)
     is_crowded = False  # whether more datagrams came than are answered as it began
-    errors = -1
     probe = 0
 
     def __init__(self, host: Host, settings: Settings, feeds: Sequence[Feed],
@@ -55,7 +53,7 @@ class Run:
         try:
             self.child = self._start(feeds, list(links), theirs)
         except OSError:
-            self._close()
+            self._close_pipes()
             self.remove_out()
             raise
         finally:
@@ -84,21 +82,19 @@ class Run:
         words += [f"socket={one}" for one in links]
         words += [f"pace={self.settings.pace}"] if self.settings.pace else []
         station = Outlet(host, handed(host.outlet()), 0)
-        place = theirs[-1]
         station.give(self._station(logs).encode())
         is_whole = not station.pending
         station.close()
         if not is_whole:
             raise OSError(errno.ENOSPC, "a pipe takes no station", "the station")
+        program = [self.settings.program, "serve", "--station", f"/dev/fd/{theirs[-1]}",
+                   "--during", str(HEARINGS)]
         given = sorted({*theirs, *links})
-        self.errors = handed(host.inlet())
         out = os.path.join(self.settings.runtime, name_of(host.realtime(), self.number) + OUT)
         theirs.append(host.open(out, os.O_RDWR | os.O_CREAT | os.O_EXCL | os.O_NOFOLLOW))
         self.out = out
-        program = [self.settings.program, "serve", "--station", f"/dev/fd/{place}"]
-        return host.spawn(
-            [*program, "--during", str(HEARINGS)], standard=(-1, theirs[-1], theirs[-2]),
-            handed=given, gentle=True, environment={"RADIO_NTPD_SERVICE": " ".join(words)})
+        return host.spawn(program, standard=(-1, theirs[-1], 2), handed=given, gentle=True,
+                          environment={"RADIO_NTPD_SERVICE": " ".join(words)})
 
     def _station(self, logs: list[str]) -> str:
         """The station's text for this run: its counter is the host's own."""
@@ -110,44 +106,22 @@ class Run:
             server["polls"] = POLLS
         if self.probe:
             values["link"] = [*values["link"], {"port": self.probe}]
-        path = self.settings.leap_file
-        if path and (why := self._refused(path)):  # it is no reason to serve nobody
+        try:
+            if path := self.settings.leap_file:
+                with disk.opened(self.host, path, os.O_RDONLY) as descriptor:
+                    self.host.read(descriptor, 1)
+        except OSError as error:  # it is no reason to serve nobody
             del values["leap_file"]
-            self.note = f"leap_file {path}: {why}; the run goes without it"
+            self.note = f"leap_file {path}: {error.strerror}; the run goes without it"
         return text_of(values)
 
-    def _refused(self, path: str) -> str:
-        """Why a file can't be read; nothing where it can."""
-        descriptor = -1
-        try:
-            descriptor = self.host.open(path, os.O_RDONLY)
-            self.host.read(descriptor, 1)
-        except OSError as error:
-            return error.strerror or str(error)
-        finally:
-            self.host.close(descriptor)
-        return ""
-
     def give(self, feed: Feed, heard: Sequence[Heard]) -> None:
-        """Pulses of a radio, where it is one of this run's."""
         if feed in self.outlets:
             self.outlets[feed].give(b"".join(one.given.line() for one in heard))
 
-    def push(self) -> None:
-        for outlet in self.outlets.values():
-            outlet.push()
-
-    def is_broken(self) -> bool:
-        """Whether it doesn't take its pulses."""
-        return any(outlet.is_broken for outlet in self.outlets.values())
-
     def is_fed(self) -> bool:
         """Whether it has read all that it was given."""
-        try:
-            return not any(one.pending or self.host.unread(one.descriptor)
-                           for one in self.outlets.values())
-        except OSError:
-            return False
+        return not any(one.waits() for one in self.outlets.values())
 
     def hangs(self, seen: float) -> bool:
         """Whether it hasn't read what it was given for long, by the seconds of our looks."""
@@ -165,7 +139,6 @@ class Run:
                 self.asks_since = self.host.monotonic()
 
     def begin(self, cause: str) -> None:
-        """Serves from now on."""
         self.cause, self.began = cause, self.host.monotonic()
         self.tell("ask")
         self.tell("go")
@@ -184,17 +157,9 @@ class Run:
         return self.host.status(self.child)
 
     def served_for(self) -> float:
-        """Seconds for which it served, up to its end or now."""
+        """For how long it served, up to its end or now (s)."""
         end = self.host.monotonic() if self.ended is None else self.ended
         return end - self.began if self.began is not None else 0.0
-
-    def how(self) -> str:
-        """How it ended, and the sentence in which it has said what went wrong."""
-        status, said = self.status(), b""
-        with contextlib.suppress(OSError):
-            said = self.host.read(self.errors, SENTENCES)
-        how = "doesn't answer" if status is None else ended(status)
-        return ": ".join(filter(None, (how, reason(said))))
 
     def _close_pipes(self) -> None:
         for outlet in self.outlets.values():
@@ -202,18 +167,11 @@ class Run:
         while self.signals:
             self.host.close(self.signals.popitem()[1])
 
-    def _close(self) -> None:
-        self._close_pipes()
-        self.host.close(self.errors)
-        self.errors = -1
-
     def remove_out(self) -> None:
-        """What it has printed isn't kept."""
         if self.out:
             with contextlib.suppress(OSError):
                 self.host.remove(self.out)
 
     def release(self) -> None:
-        """Nothing of the process stays."""
-        self._close()
+        self._close_pipes()
         self.host.release(self.child)

@@ -6,14 +6,14 @@ from collections.abc import Sequence
 
 from keeper.config import Settings
 from keeper.ntp import own_addresses
-from keeper.supervisor.clocks import Looks, Pause
+from keeper.supervisor.clocks import Pause
 from keeper.supervisor.host import Host
 from keeper.supervisor.disk import Note
 from keeper.supervisor.journals import Archive, Journal
 from keeper.supervisor.radios import Feed, Heard
 from keeper.supervisor.runs import HEARINGS, POLLS, Run
 from keeper.supervisor.watchdog import Link, Watch
-from keeper.errors import sentence
+from keeper.errors import ended, sentence
 
 STANDBY = 0.5  # how long after a change the next run is started (s)
 ASKED = {"cycle": 10.0, "busy": 0.5, "reload": 0.5}  # servers are asked so long before a change (s)
@@ -26,6 +26,7 @@ END = 5.0  # within which a run has to end (s)
 PAUSES = 1.0, 30.0  # after a run that didn't begin, or that died soon (s)
 PATIENT = 2.0  # the longest such pause that isn't kept where nobody serves (s)
 REFUSED = 60.0, 3600.0  # after a change that was refused since the time would be lost (s)
+LATE = 0.5  # of the time since the look before no more counts (s)
 SHORT = 10.0  # a run that dies sooner is followed by a pause before another one is started (s)
 USED = 0.7  # the part of its hearings, or of its polls, after which a run is followed
 CROWDED = 4.0  # a run that a crowd comes upon is followed then, so that its journal counts it (s)
@@ -36,7 +37,7 @@ log = logging.getLogger(__name__)
 class Service:
     """Runs are started from `use` on, until `stop`: `is_open` meanwhile. While `looked_at` is there
     the run that stands by has been told to serve, and is asked by it. `cause` is why the next run
-    is to serve where none does, `last` the journal before."""
+    is to serve where none does, `last` the journal before. `looks` is seconds by our own looks."""
 
     def __init__(self, host: Host, settings: Settings, archive: Archive) -> None:
         self.host, self.settings, self.archive = host, settings, archive
@@ -49,7 +50,7 @@ class Service:
         self.ending: list[Run] = []
         self.watch = Watch(host, [], [])
         self.looked_at: Watch | None = None
-        self.looks = Looks(host.monotonic())
+        self.looks, self.last_look = 0.0, host.monotonic()
         self.looked_from = 0.0  # since when the next run is looked at, by our looks (s)
         self.number = 0
         self.cause = "start"
@@ -58,7 +59,6 @@ class Service:
         self.rate = 0.0  # datagrams a second of the busiest link, in the last journal
         self.knows_crowd = False  # whether that journal is of a crowd alone
         self.requests: dict[int, tuple[int, float]] = {}  # of clients, by port: all, and a second
-        self.retired: list[int] = []  # sockets that the run that serves has, and no later one
         self.last = Journal(host, "", [])
         self.note = ""
         self.lacking = Note("no run can be started", "runs can be started again")
@@ -71,12 +71,10 @@ class Service:
         self.addresses = own_addresses(settings.denied, settings.gap)
 
     def _runs(self) -> list[Run]:
-        """All that live."""
         return [run for run in (self.serving, self.next, *self.ending) if run]
 
     def awaits(self) -> list[int]:
-        ends = [run.child.ended for run in self._runs()]
-        return ends + (self.looked_at or self.watch).awaits()
+        return (self.looked_at or self.watch).awaits()
 
     def wakes(self) -> float:
         """When something is to be done at the latest (monotonic s)."""
@@ -84,20 +82,21 @@ class Service:
         return asks.due() if asks else float("inf")
 
     def heard(self, feed: Feed, heard: Sequence[Heard]) -> None:
-        """Pulses of a radio: all runs get them."""
         for run in self._runs():
             run.give(feed, heard)
 
     def turn(self, readable: set[int]) -> None:
         now = self.host.monotonic()
-        self.looks.look(now)
+        # A look that came late is no evidence against a run: we were stopped or starved.
+        self.looks += min(now - self.last_look, LATE)
+        self.last_look = now
         self._step_ending()
         if self.serving and self.serving.status() is not None:
             self._lose("died", now)
         if self.is_open:
             self._step_next(now)
-        for run in self._runs():
-            run.push()
+        for outlet in [one for run in self._runs() for one in run.outlets.values()]:
+            outlet.push()
         if self.next and self.looked_at:
             # Meanwhile both runs answer on the same links, which aren't asked.
             self._look(self.next, self.looked_at, readable, now)
@@ -105,16 +104,18 @@ class Service:
             self.watch.turn(readable, now)
         if self.is_open and not self.looked_at and (cause := self._why(now)):
             self._try(cause, now)
-        self._note_time()
+        if (run := self.serving) and not run.had_time and self.watch.has_time():
+            run.had_time = True
+            log.info("run %d has the time after %.0f ms", run.number, run.served_for() * 1000)
 
     # The run that stands by
 
     def _step_next(self, now: float) -> None:
         if self.next and not self.looked_at:
             said = f"run {self.next.number}, which stood by,"
-            if self.next.status() is not None:
-                self._fail(f"{said} {self.next.how()}", now)
-            elif self.next.hangs(self.looks.seconds):
+            if (status := self.next.status()) is not None:
+                self._fail(f"{said} {ended(status)}", now)
+            elif self.next.hangs(self.looks):
                 self._fail(f"{said} takes no pulses", now)
             elif now - self.next.started > SHORT:
                 self.starts.reset()
@@ -141,12 +142,10 @@ class Service:
     def _drop_next(self) -> None:
         if self.looked_at:
             self.looked_at.close()
-            self.looked_at = None
         if self.next:
-            self.next.end_at_once()
             self.next.release()
             self.next.remove_out()
-            self.next = None
+        self.next = self.looked_at = None
 
     # Changes
 
@@ -159,7 +158,7 @@ class Service:
             return "silent"
         if now < self.refusals.until:
             return ""
-        if run.is_broken():
+        if any(outlet.is_broken for outlet in run.outlets.values()):
             return "silent"
         if self.wants_reload:
             return "reload"
@@ -190,13 +189,13 @@ class Service:
         run.begin(cause)
         port = run.probe or next(iter(self.settings.links), 0)
         self.watch.close()
-        self.looked_from = self.looks.seconds
+        self.looked_from = self.looks
         self.looked_at = Watch(self.host, [Link(port)] if port else [], self.addresses, EVERY)
 
     def _look(self, run: Run, watch: Watch, readable: set[int], now: float) -> None:
         """Looks at the run that was told to serve: whether it does, and has the time."""
-        if run.status() is not None:
-            self._fail(f"run {run.number} doesn't begin: it {run.how()}", now)
+        if (status := run.status()) is not None:
+            self._fail(f"run {run.number} doesn't begin: it {ended(status)}", now)
             return
         watch.turn(readable, now)
         before = self.serving if self.watch.has_time() and not self.watch.is_deaf() else None
@@ -208,29 +207,26 @@ class Service:
             log.info("run %d goes on: the next one would not have the time yet; it is tried again "
                      "in %.0f s", before.number, self.refusals.begin(now))
             self._drop_next()
-        elif not link.answered_at and self.looks.seconds - self.looked_from > look:
+        elif not link.answered_at and self.looks - self.looked_from > look:
             self._fail(f"run {run.number} doesn't answer", now)
 
     def _accept(self, run: Run, watch: Watch, now: float) -> None:
         """The run that was looked at serves, and the one before ends."""
         watch.close()
         was_deaf = self.watch.is_deaf()
-        if self.serving:
-            if run.cause == "silent":
-                log.error("run %d doesn't answer any more", self.serving.number)
-            self._end(self.serving, run.cause)
+        if self.serving and run.cause == "silent":
+            log.error("run %d doesn't answer any more", self.serving.number)
+        self._lose(run.cause, now)
         self.serving, self.next, self.looked_at = run, None, None
         ports = run.settings.links
         if [link.port for link in self.watch.links] != ports:
             self.watch = Watch(self.host, [Link(port, self.links[port]) for port in ports], [])
-        self.watch.addresses, self.watch.changed = self.addresses, True
+        self.watch.addresses = self.addresses
         self.watch.begin(now, was_deaf)
         for probe in watch.links:  # its first answer stands for those of its links
             for link in self.watch.links if probe.last else []:
                 link.last, link.came_unix, link.offset = probe.last, probe.came_unix, probe.offset
         self.wants_reload = self.wants_reload and run.cause != "reload"
-        while self.retired:
-            self.host.close(self.retired.pop())
         if run.note and run.note != self.note:
             log.warning("%s", run.note)
         self.note = run.note
@@ -240,30 +236,19 @@ class Service:
         self.starts.until = max(self.starts.until, now + STANDBY)
         log.info("run %d (%s) serves", run.number, run.cause)
 
-    def _note_time(self) -> None:
-        """Says once that clients of a run get the time."""
-        run = self.serving
-        if run and not run.had_time and self.watch.has_time():
-            run.had_time = True
-            log.info("run %d has the time after %.0f ms", run.number, run.served_for() * 1000)
-
     # Ends
 
-    def _end(self, run: Run, why: str) -> None:
-        """Tells a run to end; its journal follows."""
+    def _lose(self, why: str, now: float) -> None:
+        """The run that serves, where one does, is told to end; its journal follows."""
+        run, self.serving, self.cause = self.serving, None, why
+        if run is None:
+            return
         for place, link in enumerate(self.watch.links[:len(run.own)]):
             run.own[place] += link.asked
             link.asked = 0
         run.end(why)
-        run.ends_at = self.looks.seconds
+        run.ends_at = self.looks
         self.ending.append(run)
-
-    def _lose(self, why: str, now: float) -> None:
-        """The run that serves is no more."""
-        run, self.serving, self.cause = self.serving, None, why
-        if run is None:
-            return
-        self._end(run, why)
         if why == "died" and run.served_for() < SHORT:
             self.starts.begin(now)
 
@@ -272,14 +257,14 @@ class Service:
             if run.status() is not None:
                 self.ending.remove(run)
                 self._note_end(run)
-            elif self.looks.seconds - run.ends_at > END:
+            elif self.looks - run.ends_at > END:
                 log.error("run %d is ended at once: it didn't end by itself", run.number)
                 run.end_at_once()
-                run.ends_at = self.looks.seconds
+                run.ends_at = self.looks
 
     def _note_end(self, run: Run) -> None:
         """A run has ended: its journal goes to the disk, or is lost."""
-        said, seconds = run.how(), max(run.served_for(), 0.1)
+        said, seconds = ended(run.status()), max(run.served_for(), 0.1)
         run.release()
         self.last = self.archive.add(run.out, run.own)
         status = self.last.status
@@ -308,18 +293,11 @@ class Service:
             run.end_at_once()
         self.is_open = False
         self._drop_next()
-        if self.serving:
-            self._end(self.serving, "stop")
-            self.serving = None
+        self._lose("stop", self.host.monotonic())
         self.watch.close()
 
-    def is_over(self) -> bool:
-        return not self.serving and not self.ending
-
     def close(self) -> None:
-        """Ends all at once."""
         self._drop_next()
         self.watch.close()
         for run in self._runs():
-            run.end_at_once()
             run.release()

@@ -20,19 +20,23 @@ class Ended(Exception):
 
 
 class Source:
-    """`value` is the command or the name. `awaits` can be read when there is something; -1 where
-    the source has to be looked at."""
+    """`value` is the command or the name. One that is opened for reading has a `descriptor`."""
+
+    descriptor = -1
 
     def __init__(self, host: Host, value: str) -> None:
         self.host, self.value = host, value
-        self.awaits = -1
 
     def begin(self) -> None:
-        """Opens it. Raises OSError."""
+        """Opens it, or opens it anew. Raises OSError."""
+        raise NotImplementedError
 
     def read(self) -> bytes:
         """What there is, b"" for nothing now. Raises Ended, OSError."""
-        raise NotImplementedError
+        try:
+            return self.host.read(self.descriptor, MOST)
+        except BlockingIOError:
+            return b""
 
     def stalls(self) -> bool:
         """Whether a silent one is to be begun anew."""
@@ -43,7 +47,8 @@ class Source:
         self.close()
 
     def close(self) -> None:
-        """Nothing of it stays."""
+        self.host.close(self.descriptor)
+        self.descriptor = -1
 
 
 class Command(Source):
@@ -64,17 +69,17 @@ class Command(Source):
             raise
         finally:
             self.host.close(theirs)
-        self.awaits = ours
+        self.descriptor = ours
 
     def read(self) -> bytes:
-        if self.awaits >= 0:
+        if self.descriptor >= 0:
             try:
-                piece = self.host.read(self.awaits, MOST)
+                piece = self.host.read(self.descriptor, MOST)
             except BlockingIOError:
                 return b""
             if piece:
                 return piece
-            self._drop_output()
+            super().close()
             self.until = self.host.monotonic() + LINGER
         status = self.host.status(self.child) if self.child else None
         if status is None and self.host.monotonic() < self.until:
@@ -83,16 +88,12 @@ class Command(Source):
 
     def rest(self) -> None:
         """What it started is asked to end; `begin` or `close` ends what is left."""
-        self._drop_output()
+        super().close()
         if self.child:
             self.host.kill(self.child, signal.SIGTERM)
 
-    def _drop_output(self) -> None:
-        self.host.close(self.awaits)
-        self.awaits = -1
-
     def close(self) -> None:
-        self._drop_output()
+        super().close()
         if self.child:
             self.host.release(self.child)
             self.child = None
@@ -102,26 +103,15 @@ class Fifo(Source):
     """A FIFO into which something else writes. It stays open, since its end would end its writer:
     where its last writer has gone the next one goes on."""
 
-    descriptor = -1
-
     def begin(self) -> None:
         """The old opening is given back after the new one was made: a writer always has a
         reader."""
         opened = self.host.open(self.value, os.O_RDONLY)
         self.close()
-        self.descriptor = self.awaits = opened
+        self.descriptor = opened
         if not stat.S_ISFIFO(self.host.stat(opened).st_mode):
             self.close()
             raise OSError(0, "it is no FIFO", self.value)
-
-    def read(self) -> bytes:
-        try:
-            piece = self.host.read(self.descriptor, MOST)
-        except BlockingIOError:
-            self.awaits = self.descriptor
-            return b""
-        self.awaits = self.descriptor if piece else -1  # without a writer it never waits
-        return piece
 
     def stalls(self) -> bool:
         """Whether another FIFO has its name by now: that one's writer waits for a reader."""
@@ -133,39 +123,35 @@ class Fifo(Source):
     def rest(self) -> None:
         """It stays open: the next writer may be there already."""
 
-    def close(self) -> None:
-        self.host.close(self.descriptor)
-        self.descriptor = self.awaits = -1
-
 
 class Growing(Source):
     """A file that something else appends to. It is read on from where it was left. Of one that is
     new, or was made shorter, the minutes before are read too, where they are of this counter.
     `known` is which file was read up to `place`."""
 
-    file = place = -1
+    place = -1
     known: os.stat_result | None = None
 
     def begin(self) -> None:
         self.close()
-        self.file = self.host.open(self.value, os.O_RDONLY)
-        here = self.host.stat(self.file)
+        self.descriptor = self.host.open(self.value, os.O_RDONLY)
+        here = self.host.stat(self.descriptor)
         if not stat.S_ISREG(here.st_mode):
             self.close()
             raise OSError(0, "it is no file", self.value)
         if not self.known or not os.path.samestat(self.known, here) or here.st_size < self.place:
             start = max(0, here.st_size - TAIL)
-            tail = self.host.read_at(self.file, here.st_size - start, start)
+            tail = self.host.read_at(self.descriptor, here.st_size - start, start)
             age = self.host.realtime() - here.st_mtime
             self.place = start + live_from(self.host, tail, start > 0, age)
         self.known = here
 
     def read(self) -> bytes:
-        piece = self.host.read_at(self.file, MOST, self.place)
+        piece = self.host.read_at(self.descriptor, MOST, self.place)
         if piece:
             self.place += len(piece)
             return piece
-        here = self.host.stat(self.file)
+        here = self.host.stat(self.descriptor)
         try:
             there = self.host.stat(self.value)
         except FileNotFoundError as error:
@@ -175,10 +161,6 @@ class Growing(Source):
         if here.st_size < self.place:
             raise Ended("its file was made shorter")
         return b""
-
-    def close(self) -> None:
-        self.host.close(self.file)
-        self.file = -1
 
 
 def live_from(host: Host, tail: bytes, is_cut: bool, age: float) -> int:
@@ -206,5 +188,4 @@ def live_from(host: Host, tail: bytes, is_cut: bool, age: float) -> int:
 
 
 def source_of(host: Host, kind: str, value: str) -> Source:
-    """The source of a radio, by the key of the keeper's file that names it."""
     return {"command": Command, "fifo": Fifo, "file": Growing}[kind](host, value)

@@ -50,6 +50,7 @@ class Supervisor:
         self.closing: list[Task] = []  # logs that are given back
         self.lock = -1
         self.links: dict[int, int] = {}  # sockets by their ports
+        self.handed: set[int] = set()  # ports that systemd keeps, so that nobody can bind them
         self.ports = clocks.Pause(*PAUSES)  # after a port was refused
         self.logs = os.path.join(settings.folder, "logs")
         self.archive = Archive(host, os.path.join(settings.folder, "journals"))
@@ -73,6 +74,7 @@ class Supervisor:
         self.paused = self.reports.paused_before()
         self.counter = self._counter()
         self.links = {self.host.port_of(one): one for one in self.host.handed_over()}
+        self.handed = set(self.links)
         self.archive.due = self.host.monotonic() + LEFT
         for name in self.host.names(self.settings.runtime):
             if name.endswith(OUT):  # of a supervisor that was killed
@@ -100,22 +102,26 @@ class Supervisor:
         """One round: waits for what comes, at most a fortieth of a second, and does what is due.
         False once all has ended. Nothing is raised, whatever happens outside."""
         span = min(TURN, self.service.wakes() - self.host.monotonic())
-        readable = self.host.wait(self._awaits(), max(LEAST, span))
+        readable = self.host.wait(self.service.awaits(), max(LEAST, span))
         self._guarded(self._look_at_clocks)
         self._guarded(self._take_signals)
-        for feed in self._live_feeds():
-            feed.turn(readable)
-        self._guarded(lambda: self.service.turn(readable))
         if self.stopping is None:
+            for feed in self.feeds:
+                feed.turn()
             self._guarded(self._step_links)
             self._guarded(self._step_reload)
+        self._guarded(lambda: self.service.turn(readable))
         self._guarded(self._step_disk)
         self._guarded(self._tell)
-        return not self._is_over()
-
-    def _live_feeds(self) -> list[Feed]:
-        """Those whose sources and logs are open."""
-        return self.feeds if self.stopping is None else []
+        if not self._has_ended():
+            return True
+        self._guarded(lambda: self.reports.end(self.feeds))
+        if self.archive.waiting:
+            log.error("the disk takes nothing; journals that wait in %s: %d", self.settings.runtime,
+                      len(self.archive.waiting))
+        if self.archive.lost or self.archive.waiting:
+            self.status = NOT_WELL
+        return False
 
     def _guarded(self, part: Callable[[], None]) -> None:
         """What goes wrong in one part leaves the others alone; it is said once a minute."""
@@ -126,11 +132,6 @@ class Supervisor:
             if now - self.faults.get(where, -FAULTS) >= FAULTS:
                 self.faults[where] = now
                 log.exception("in the loop: %r", error)
-
-    def _awaits(self) -> list[int]:
-        sources = [feed.source.awaits for feed in self._live_feeds()]
-        own = [one for one in sources if one >= 0]
-        return own + self.service.awaits() + self.reports.awaits()
 
     def _look_at_clocks(self) -> None:
         if span := self.clocks.sleep():
@@ -151,9 +152,8 @@ class Supervisor:
         """The counter stood still: what was received before says nothing of now."""
         self.service.sleep(cause)  # at first: each answer is as wrong as that was long
         log.warning("the host %s; a new run begins, without what was received before", said)
-        self.service.watch.changed = True  # so that the next keeper is told of it
         self.counter = self._counter()
-        for feed in self._live_feeds():
+        for feed in self.feeds if self.stopping is None else []:
             feed.wake()
             self.closing.append(feed.log.close())
             feed.log = self._log(feed.number, feed.radio)
@@ -161,7 +161,10 @@ class Supervisor:
     def _take_signals(self) -> None:
         for number in self.host.signals():
             if number == signal.SIGHUP:
-                self._reload()
+                # Both files are judged beside the loop, anew where they are judged already.
+                now = int(self.host.monotonic() * 1e6)
+                self.host.notify(f"RELOADING=1\nMONOTONIC_USEC={now}")
+                self.judging = self.host.settings(self.settings.path)
             else:
                 self._stop()
 
@@ -176,7 +179,11 @@ class Supervisor:
         self.service.stop()
 
     def _step_links(self) -> None:
-        """Binds what isn't bound yet, and then has the station served."""
+        """Gives back what no run needs, binds what isn't bound yet, and then has the station
+        served."""
+        served = {link.port for link in self.service.watch.links}
+        for port in self.links.keys() - self.handed - served - set(self.settings.links):
+            self.host.close(self.links.pop(port))
         now = self.host.monotonic()
         if self.service.is_open or now < self.ports.until:
             return
@@ -197,31 +204,20 @@ class Supervisor:
 
     # Reload
 
-    def _reload(self) -> None:
-        """Has both files judged beside the loop, anew where they are judged already."""
-        self.host.notify(f"RELOADING=1\nMONOTONIC_USEC={int(self.host.monotonic() * 1e6)}")
-        try:
-            self.judging = self.host.settings(self.settings.path)
-        except OSError as error:
-            self._judged(f"the files can't be judged: {error.strerror}")
-
     def _step_reload(self) -> None:
-        """Takes what was judged; later where a run is about to serve, whose place it would
-        take."""
+        """Takes what was judged, or says why not, and then all goes on as it was. Later where a run
+        is about to serve, whose place it would take."""
         is_about = self.service.serving is None and self.service.next is not None
         if not self.judging or not self.judging.done() or is_about:
             return
         task, self.judging = self.judging, None
         fault = task.exception()
-        self._judged(str(fault) if fault else self._take_over(task.result()))
-
-    def _judged(self, why: str) -> None:
-        """Both files were taken, or were refused, and then all goes on as it was."""
-        self.refused, self.reloads, self.service.watch.changed = why, self.reloads + 1, True
-        if why:
-            log.error("not reloaded: %s", why)
-            self.events.append({"number": self.reloads, "event": "file-refused", "text": why,
-                                "at": self.host.realtime()})
+        self.refused = str(fault) if fault else self._take_over(task.result())
+        self.reloads += 1
+        if self.refused:
+            log.error("not reloaded: %s", self.refused)
+            self.events.append({"number": self.reloads, "event": "file-refused",
+                                "text": self.refused, "at": self.host.realtime()})
             del self.events[:-EVENTS]
         self.host.notify("READY=1")
 
@@ -239,8 +235,6 @@ class Supervisor:
             if feed not in feeds:
                 feed.source.close()
                 self.closing.append(feed.log.close())
-        left = [port for port in self.links if port not in settings.links]
-        self.service.retired += [self.links.pop(port) for port in left]
         self.settings, self.feeds = settings, feeds
         self.service.use(settings, feeds, self.links)
         log.info("both files were read anew")
@@ -263,7 +257,7 @@ class Supervisor:
         now = self.host.monotonic()
         self.archive.turn(now)
         self.closing = [one for one in self.closing if not one.done()]
-        for feed in self._live_feeds():
+        for feed in self.feeds if self.stopping is None else []:
             feed.log.turn(now)
 
     def _tell(self) -> None:
@@ -271,10 +265,11 @@ class Supervisor:
         if interval is not None and now - self.pinged >= interval:
             self.pinged = now
             self.host.notify("WATCHDOG=1")
-        is_news, self.service.watch.changed = self.service.watch.changed, False
-        for feed in self.feeds:
-            is_news, feed.changed = is_news or feed.changed, False
-        self.reports.turn(self.feeds, is_news)
+        # What `reload`, alarms and the next keeper wait for is told at once.
+        said = [link.last and (link.last.leap, link.last.stratum, link.last.reference_id)
+                for link in self.service.watch.links]
+        silent, run = [feed.silent_since for feed in self.feeds], self.service.serving
+        self.reports.turn(self.feeds, (self.paused, self.reloads, run and run.number, silent, said))
 
     def _facts(self) -> dict[str, Any]:
         notes = [self.service.lacking.text, self.service.note, self.archive.note.text,
@@ -286,28 +281,15 @@ class Supervisor:
         # One that was stopped hasn't died.
         return facts if self.stopping is None else facts | {"pid": 0}
 
-    def _is_over(self) -> bool:
+    def _has_ended(self) -> bool:
         """Whether all has ended that has a journal or a log; the disk may be waited for a while."""
         if self.stopping is None:
             return False
-        is_late = self.host.monotonic() - self.stopping > LAST
-        is_kept = not self.archive.waiting or bool(self.archive.note.text)
-        if not is_late and not (self.service.is_over() and is_kept and not self.closing):
-            return False
-        if self.reports.ends is None:
-            self._guarded(lambda: self.reports.turn(self.feeds, True))  # the last of it
-            self.reports.end()
-        if not is_late and not self.reports.has_ended():
-            return False
-        if self.archive.waiting:
-            log.error("the disk takes nothing; journals that wait in %s: %d", self.settings.runtime,
-                      len(self.archive.waiting))
-        if self.archive.lost or self.archive.waiting:
-            self.status = NOT_WELL
-        return True
+        is_kept = not self.archive.waiting or self.archive.note.text
+        goes_on = self.service.serving or self.service.ending or self.closing or not is_kept
+        return not goes_on or self.host.monotonic() - self.stopping > LAST
 
     def close(self) -> None:
-        """Nothing stays, whatever happened."""
         for feed in self.feeds:
             self._guarded(feed.source.close)
         self._guarded(self.service.close)

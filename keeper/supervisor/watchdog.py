@@ -13,7 +13,7 @@ LEAST = 0.05  # how soon a question that the host refused is asked again (s)
 HURRIED = 8.0  # where links fall silent again and again patience grows to so many times at most
 SETTLED = 0.3  # a run that is told to end may answer so long (s)
 CALM = 60.0  # after so long without a deaf link patience is what it was (s)
-LATE = 0.05  # a look that comes so long after the one before is late: we were stopped or starved (s)
+LATE = 0.05  # a look so long after the one before is late: we were stopped or starved (s)
 CROWD = 100  # datagrams that find no room within a second make a crowd
 
 
@@ -21,8 +21,9 @@ CROWD = 100  # datagrams that find no room within a second make a crowd
 class Link:
     """A port that is asked. `queue` is its socket, -1 where there is none to look at. `asked_at`
     and `answered_at` are monotonic seconds; `last` is its last answer that was no kiss code: it
-    came at `came_unix`, and was `offset` seconds ahead of the host's clock. `waits_since`: since
-    when datagrams wait in its queue. `judged_from`: since when its answer is waited for."""
+    came at `came_unix`, and was `offset` seconds ahead of the host's clock. `asked` counts
+    questions, and `silent` those in a row without an answer. `waits_since`: since when datagrams
+    wait in its queue. `judged_from`: since when its answer is waited for."""
 
     port: int
     queue: int = -1
@@ -33,10 +34,9 @@ class Link:
     came_unix: float = 0.0
     offset: float = 0.0
     kissed: bool = False
-    silent: int = 0
     due: float = 0.0
     asked: int = 0
-    turns: int = 0
+    silent: int = 0
     client: int = -1
     origin: int = 0
     waits_since: float | None = None
@@ -57,7 +57,6 @@ class Watch:
     every: float = ASKED
     patience: float = 1.0
     deaf_at: float = -CALM
-    changed: bool = False  # an answer differs from the one before
     looked: float = 0.0
     # In the last second, or since the last turn where that is longer ago.
     dropped: list[tuple[float, int]] = field(default_factory=list)
@@ -117,15 +116,13 @@ class Watch:
 
     def _ask(self, link: Link, now: float) -> None:
         link.due, link.origin = now + self.every, int(now * 1e9) % 2**64
-        link.turns += 1  # each link has a table of clients of its own
-        own = self.addresses[link.turns % len(self.addresses)]
+        own = self.addresses[link.asked % len(self.addresses)]
         try:
             link.client = self.host.client(own, link.port)
             self.host.write(link.client, request(link.origin))
         except OSError:
             # Nothing was sent: the host has no socket now, or its firewall drops what we send.
-            link.due = now + LEAST
-            self._forget(link)
+            self._forget(link, now + LEAST)
             return
         link.asked_at = link.judged_from = now
         link.asked += 1
@@ -140,32 +137,26 @@ class Watch:
             return
         if said is None or said.origin != link.origin:
             return
-        self._forget(link)
+        self._forget(link, link.due)
         link.silent, link.answered_at, link.kissed = 0, now, said.is_kiss()
-        if said.is_kiss():
-            return
-        before, link.last, link.came_unix = link.last, said, self.host.realtime()
-        middle = unix_of((said.receive + said.transmit) / 2, link.came_unix)
-        link.offset = middle - link.came_unix + (now - link.asked_at) / 2
-        seen = (said.leap, said.stratum, said.reference_id)
-        if before is None or (before.leap, before.stratum, before.reference_id) != seen:
-            self.changed = True
+        if not said.is_kiss():
+            link.last, link.came_unix = said, self.host.realtime()
+            middle = unix_of((said.receive + said.transmit) / 2, link.came_unix)
+            link.offset = middle - link.came_unix + (now - link.asked_at) / 2
 
     def _is_silent(self, link: Link, due: float) -> None:
-        self._forget(link)
+        self._forget(link, due)
         link.silent += 1
-        link.due = due
 
-    def _forget(self, link: Link) -> None:
+    def _forget(self, link: Link, due: float) -> None:
+        """Its question is given up or answered; the next one is asked then."""
         self.host.close(link.client)
-        link.client = -1
+        link.client, link.due = -1, due
 
     def has_time(self) -> bool:
-        """Whether a link's last answer had the time."""
         return any(link.has_time() for link in self.links)
 
     def is_deaf(self) -> bool:
-        """Whether a link doesn't answer any more."""
         most = LOST if self.is_crowded() else SILENT
         return any(link.silent >= most for link in self.links)
 
@@ -179,4 +170,4 @@ class Watch:
 
     def close(self) -> None:
         for link in self.links:
-            self._forget(link)
+            self._forget(link, link.due)

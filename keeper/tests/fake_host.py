@@ -30,7 +30,6 @@ class Process:
         self.host, self.words, self.environment = host, list(words), dict(environment)
         self.input, self.output = dup(standard[0]), dup(standard[1])
         self.handed = {one: dup(one) for one in handed}
-        self.ended, self.alive = os.pipe2(os.O_CLOEXEC)
         self.status: int | None = None
         self.frozen = False
         self.signals: list[int] = []
@@ -41,7 +40,7 @@ class Process:
     def end(self, status: int) -> None:
         if self.status is None:
             self.status = status
-            for one in (self.alive, self.input, self.output, *self.handed.values()):
+            for one in (self.input, self.output, *self.handed.values()):
                 if one >= 0:
                     os.close(one)
 
@@ -145,7 +144,7 @@ class Program(Process):
 
 
 class FakeHost(Host):
-    """`processes` are all that were started. `refuses` has an OSError for each call that is to be
+    """`processes` are all that were started. `refuses` has an exception for each call that is to be
     refused. `said` are sentences, `told` messages for systemd."""
 
     def __init__(self) -> None:
@@ -153,7 +152,7 @@ class FakeHost(Host):
         self.now, self.asleep, self.ahead = 50_000.0, 0.0, 1.7e9
         self.paused: float | None = None  # what the real-time clock went on alone (s)
         self.processes: list[Process] = []
-        self.refuses: dict[str, OSError] = {}
+        self.refuses: dict[str, Exception] = {}
         self.said: list[str] = []
         self.told: list[str] = []
         self.needs = 0
@@ -195,8 +194,9 @@ class FakeHost(Host):
         return task
 
     def settings(self, path: str) -> Future[config.Settings]:
-        self._refuse("settings")
         self.judging: Future[config.Settings] = Future()
+        if "settings" in self.refuses:
+            self.judging.set_exception(self.refuses["settings"])
         return self.judging
 
     def disk_goes_on(self) -> None:
@@ -212,20 +212,17 @@ class FakeHost(Host):
         kind = next((kinds[one] for one in words if one in kinds), Process)
         process = kind(self, words, standard, handed, environment or {})
         self.processes.append(process)
-        child = Child(len(self.processes), process.ended)
-        self.known[child.pid] = process
-        return child
+        self.known[len(self.processes)] = process
+        return len(self.processes)
 
     def status(self, child: Child) -> int | None:
-        return self.known[child.pid].status
+        return self.known[child].status
 
     def kill(self, child: Child, number: int) -> None:
-        self.known[child.pid].kill(number)
+        self.known[child].kill(number)
 
     def release(self, child: Child) -> None:
-        self.known[child.pid].kill(signal.SIGKILL)
-        del self.known[child.pid]
-        os.close(child.ended)
+        self.known.pop(child).kill(signal.SIGKILL)
 
     def outlet(self) -> tuple[int, int]:
         self._refuse("outlet")
@@ -252,7 +249,5 @@ class FakeHost(Host):
     def close_all(self) -> None:
         for one in self.processes:
             one.end(-9)
-        os.close(self.woken)
-        os.close(self.wakes)
         os.close(self.life)
         os.close(self.alive)

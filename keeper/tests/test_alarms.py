@@ -314,7 +314,7 @@ class Commands(Quiet):
         alarms = self.alarms("sleep 60")
         alarms.raise_alarm(State(), "time-lost", "a", 1.0)
         alarms.commands.turn()
-        pid = alarms.commands.child.pid
+        pid = alarms.commands.child
         alarms.commands.close()
         end = time.monotonic() + 2
         while not _gone(str(pid)) and time.monotonic() < end:

@@ -41,8 +41,8 @@ class Feeds(unittest.TestCase):
         end = time.monotonic() + seconds
         while not until():
             self.assertLess(time.monotonic(), end)
-            awaits = [feed.source.awaits] if feed.source.awaits >= 0 else []
-            feed.turn(self.host.wait(awaits, 0.02))
+            self.host.wait([], 0.02)
+            feed.turn()
 
     def lines(self) -> bytes:
         return b"".join(one.given.line() for one in self.heard)
@@ -77,11 +77,9 @@ class Feeds(unittest.TestCase):
         feed = self.feed("exec sleep 60")
         self.turn(feed, lambda: feed.state == "running")
         feed.source.read = lambda: 1 / 0  # type: ignore[method-assign,assignment,return-value]
-        feed.source.awaits, waited = -1, feed.source.awaits
         with self.assertLogs("keeper") as said:
             self.turn(feed, lambda: feed.state == "waiting")
         self.assertIn("radio 0: ZeroDivisionError: division by zero; it is started", said.output[1])
-        self.host.close(waited)
 
     def test_a_source_that_writes_noise(self) -> None:
         now = time.monotonic_ns() // 1000
@@ -104,7 +102,6 @@ class Feeds(unittest.TestCase):
         """Turns until it is said to be silent, and begins again. Since when it is, less its last
         pulse (s)."""
         self.turn(feed, lambda: feed.silent_since and feed.restarts >= 2)
-        self.assertTrue(feed.changed)
         self.assertEqual(feed.state, "waiting")
         return feed.silent_since - feed.pulse_at
 
@@ -116,14 +113,13 @@ class Feeds(unittest.TestCase):
         self.turn(feed, lambda: feed.pulses == 1)
         first = feed.pulse_at
         self.assertLess(abs(first - time.clock_gettime(time.CLOCK_BOOTTIME)), 5)
-        self.assertEqual((feed.silent_since, feed.changed), (0.0, False))
+        self.assertEqual(feed.silent_since, 0.0)
         with self.assertLogs("keeper") as said:
             self.assertEqual(self.silent(feed), 0.0)
             self.assertEqual(feed.pulse_at, first, "beginning is no pulse")
-            feed.changed = False
             (self.folder / "on").touch()
             self.turn(feed, lambda: feed.pulses == 2)
-        self.assertEqual((feed.silent_since, feed.changed, feed.state), (0.0, True, "running"))
+        self.assertEqual((feed.silent_since, feed.state), (0.0, "running"))
         self.assertRegex(said.output[-1], "radio 0 gives pulses again, after [0-9]+ s")
 
     def test_a_command_that_ends_again_and_again_is_silent(self) -> None:
@@ -163,9 +159,9 @@ class Feeds(unittest.TestCase):
         with self.assertLogs("keeper"):
             self.turn(feed, lambda: feed.state == "waiting")
             self.assertLess(time.monotonic() - began, 2)
-            child = feed.source.child.pid  # type: ignore[attr-defined]
+            child = feed.source.child  # type: ignore[attr-defined]
             self.turn(feed, lambda: feed.restarts == 2)
-        self.assertNotEqual(child, feed.source.child.pid)  # type: ignore[attr-defined]
+        self.assertNotEqual(child, feed.source.child)  # type: ignore[attr-defined]
 
     def test_the_last_minutes_are_at_hand_and_no_older_ones(self) -> None:
         feed = self.feed("exec sleep 60")
@@ -225,7 +221,7 @@ class OfAHost(unittest.TestCase):
         feed = Feed(host, 0, radio, log, lambda *_: None)
         self.addCleanup(feed.source.close)
         with self.assertLogs("keeper") as said:
-            feed.turn(set())
+            feed.turn()
         self.assertIn("radio 0: its source can't be opened: /nosuch: No such file or directory; it "
                       "is opened again in 1 s", said.output[0])
 

@@ -54,7 +54,7 @@ class Told(unittest.TestCase):
         pulses = [Pulse(one, 1) for one in range(4005)]
         feed.last_minutes.return_value = [Heard(one, one) for one in pulses]
         with mock.patch.object(told, "_tell") as tell:
-            told._look([feed], host.monotonic())
+            told._keep([feed], host.monotonic())
         last = tell.call_args.args[0]["pulses"]
         self.assertEqual((len(last), last[0], last[-1]), (4000, [5, 1, 5], [4004, 1, 4004]))
 

@@ -50,7 +50,7 @@ class Counts(Case):
         for heard, total, rate in ((100, 93, 9.3), (27, 113, 2.0)):
             run = mock.Mock(spec=Run, why="cycle", own=[7], settings=self.supervisor.settings,
                             out="", is_crowded=False)
-            run.served_for.return_value = 10.0
+            run.served_for.return_value, run.status.return_value = 10.0, 0
             self.service.archive = mock.Mock()
             self.service.archive.add.return_value = mock.Mock(status="status 0", heard=[heard])
             self.service._note_end(run)
@@ -63,7 +63,7 @@ class Causes(Case):
         settings = self.settings(cycle=86400.0 * 7, pace=pace, servers=servers)
         service = Service(self.host, settings, mock.Mock())
         service.serving = mock.Mock(spec=Run)
-        service.serving.is_broken.return_value = False
+        service.serving.outlets = {}
         service.serving.served_for.return_value = served
         return service._why(self.host.now)
 

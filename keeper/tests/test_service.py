@@ -150,7 +150,7 @@ class Changes(Case):
         self.assertTrue(self.service.watch.has_time())
         waiting.needs = 100
         self.turn(lambda: waiting.status is not None, 25)
-        self.assertIs(self.service.serving.child.pid, 1 + self.run_of(serving))
+        self.assertIs(self.service.serving.child, 1 + self.run_of(serving))
         self.assertTrue(any("would not have the time" in one for one in self.host.said))
         self.assertLess(waiting.heard.get(self.port, 0), 3)
         # It is tried again after a minute, with one that has it.

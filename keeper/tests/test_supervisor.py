@@ -65,6 +65,23 @@ class Reloads(Case):
         self.assertEqual(self.supervisor.settings.links, [self.port])
         self.assertEqual(self.facts()["refused"], "port 9: Address already in use")
 
+    def test_a_port_of_systemd_s_can_be_left_and_taken_again(self) -> None:
+        """systemd has it open all the time, so that it can't be bound; another one is closed."""
+        handed = self.host.bind("0.0.0.0", self.port)
+        systemds, trial = os.dup(handed), self.host.bind("0.0.0.0", 0)
+        self.addCleanup(os.close, systemds)
+        other = self.host.port_of(trial)
+        self.host.close(trial)
+        self.host.handed_over = lambda: [handed]  # type: ignore
+        self.begin()
+        for ports in ([other], [self.port]):
+            self.reload(self.settings(links=ports))
+            self.turn(lambda: [one.port for one in self.service.watch.links] == ports)
+            self.turn(0.1)
+            self.assertEqual(self.facts()["refused"], "")
+        self.assertEqual(self.supervisor.links, {self.port: handed})
+        self.host.close(self.host.bind("0.0.0.0", other))
+
     def test_another_folder_needs_a_new_start(self) -> None:
         self.begin()
         for key in ("folder", "runtime"):
@@ -81,7 +98,8 @@ class Reloads(Case):
             self.reload(fault)
             self.assertIs(self.service.serving.number, 1)
             self.assertIn(str(fault), self.facts()["refused"])
-        self.host.refuses["settings"] = OSError(errno.EAGAIN, "can't start new thread")
+        self.host.refuses["settings"] = Fault(
+            "the files can't be judged: can't start new thread")
         self.host.came.append(signal.SIGHUP)
         self.turn(1.0)
         self.assertEqual(self.facts()["refused"],
@@ -95,10 +113,10 @@ class Reloads(Case):
         self.host.came.append(signal.SIGHUP)
         self.turn(0.1)
         self.found(self.settings(cycle=77.0))
-        for _ in range(20):
+        for _ in range(100):
             for one in self.host.programs()[1:]:
                 one.end(2)
-            self.turn(0.1)
+            self.turn(0.01)
         self.assertIsNone(first.status)
         self.turn(lambda: first.status is not None, 20)
         self.assertFalse(self.service.wants_reload)
