@@ -19,7 +19,7 @@ from keeper import arguments
 
 STATUSES = (0, 1, 2, 3, 64, 71, 78)
 WORDS = (
-    *arguments.COMMANDS, *keeper_main.OF_THE_SERVICE, "--config", "--folder", "--json", "--nagios",
+    *arguments.COMMANDS, "stop", "--config", "--folder", "--json", "--nagios",
     "--prometheus", "--every", "--seconds", "--root", "--prefix", "--program", "--remove",
     "--radio", "--server", "--port", "--pace", "--minutes", "--help", "--version", "--nosuch", "--",
     "-h", "-1", "0", "1", "nan", "inf", "1e400", "9" * 5000, "", " ", "ä", "\udcff", "a\nb", "%s",
@@ -48,8 +48,7 @@ def command(*words: str) -> None:
     """A command of the keeper ends with one of its statuses, and says why it refuses."""
     out, errors = io.StringIO(), io.StringIO()
     with contextlib.redirect_stdout(out), contextlib.redirect_stderr(errors):
-        with mock.patch.object(keeper_main, "drop_output"):
-            status = keeper_main.main(list(words))
+        status = keeper_main.main(list(words))
     said = out.getvalue() + errors.getvalue()
     need(status in STATUSES, f"{words[0]} ends with {status}")
     need("Traceback" not in said, said)
@@ -72,8 +71,6 @@ def words(draw: random.Random, folder: Path) -> None:
             need(end.code in (0, 64), f"{given} end with {end.code}")
             text = out if end.code == 0 else errors
             need(text.getvalue().strip() != "", f"{given}: nothing is said")
-    if given[:1] and given[0] in keeper_main.OF_THE_SERVICE:
-        command(*given)
 
 
 def feeders(draw: random.Random, folder: Path) -> None:

@@ -75,8 +75,9 @@ def files(draw: random.Random, folder: Path) -> None:
         # It names one of both files, or what stands there for the station.
         need(fault.status == 78 and "/" in str(fault), f"{fault.status}: {fault}")
     else:
-        again = tomllib.loads(text_of(text))
-        need(again == text or "nan" in repr(text), f"a run gets {again} for {text}")
+        if not any(one in repr(text) for one in ("nan", "inf", "datetime")):
+            again = tomllib.loads(text_of(text))
+            need(again == text, f"a run gets {again} for {text}")
     command("status", "--config", str(keeper))
     if draw.random() < 0.1:
         command("check", "--seconds", "0", "--config", str(keeper))

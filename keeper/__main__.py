@@ -3,21 +3,18 @@ reaches a person."""
 
 import contextlib
 import importlib
-import io
 import os
 import sys
 
 from keeper.arguments import parse
-from keeper.errors import DONE, HOST, INTERRUPTED, USAGE, Fault, plain, sentence
+from keeper.errors import DONE, HOST, INTERRUPTED, Fault, plain, sentence
 
-OF_THE_SERVICE = ("start", "stop", "restart", "enable", "disable")
 MODULES = {"watch": "status"}  # `watch` is a way of `status`
+OURS = ("PYTHONPATH", "PYTHONDONTWRITEBYTECODE", "PYTHONIOENCODING")
 
 
-def dispatch(words: list[str]) -> int:
+def run(words: list[str]) -> int:
     """The exit status of these words. Raises what the commands raise."""
-    if words and words[0] in OF_THE_SERVICE:
-        raise Fault(f"`systemctl {words[0]} radio_ntpd` is meant for the service", USAGE)
     try:
         asked = parse(words)
     except SystemExit as end:  # by --help, by --version, or since they are not valid
@@ -29,10 +26,10 @@ def dispatch(words: list[str]) -> int:
 def main(words: list[str]) -> int:
     """The exit status of these words; what goes wrong is one sentence on standard error."""
     name = " ".join(["radio_keeper", *words[:1]])
-    for one in ("PYTHONPATH", "PYTHONDONTWRITEBYTECODE"):
-        os.environ.pop(one, None)  # they are ours, and not of receivers' and alarms' commands
+    for one in OURS:  # and not of receivers' and alarms' commands
+        os.environ.pop(one, None)
     try:
-        status = dispatch(words)
+        status = run(words)
         sys.stdout.flush()
         return status
     except Fault as fault:
@@ -41,32 +38,13 @@ def main(words: list[str]) -> int:
     except OSError as error:
         if not isinstance(error, BrokenPipeError):  # else whoever read what we print has ended
             print(plain(f"{name}: {sentence(error)}"), file=sys.stderr)
-        drop_output()
+        with contextlib.suppress(OSError):  # what stands in the buffer has nowhere to go
+            stdout = sys.stdout.fileno()
+            os.dup2(os.open(os.devnull, os.O_WRONLY), stdout)
         return HOST
     except KeyboardInterrupt:
         return INTERRUPTED
 
 
-def drop_output() -> None:
-    """What still stands in the buffer of standard output has nowhere to go."""
-    with contextlib.suppress(OSError):  # where it is no file, nothing is written at the end
-        os.dup2(os.open(os.devnull, os.O_WRONLY), sys.stdout.fileno())
-
-
-def open_standard() -> None:
-    """Standard streams that were closed from the start go nowhere; else a pipe of ours would get
-    their numbers."""
-    while (opened := os.open(os.devnull, os.O_RDWR)) <= 2:
-        os.set_inheritable(opened, True)
-    os.close(opened)
-    for name, number in (("stdout", 1), ("stderr", 2)):
-        if getattr(sys, name) is None:
-            setattr(sys, name, open(number, "w", encoding="utf-8", closefd=False))
-    # A name of the host need not be UTF-8.
-    if isinstance(sys.stdout, io.TextIOWrapper):
-        sys.stdout.reconfigure(errors="backslashreplace")
-
-
 if __name__ == "__main__":
-    open_standard()
     sys.exit(main(sys.argv[1:]))

@@ -2,7 +2,6 @@
 
 import argparse
 import os
-import subprocess
 import sys
 import time
 from collections.abc import Iterator
@@ -14,6 +13,7 @@ from keeper.errors import DONE, NOT_WELL, Fault
 from keeper.host_checks import become_service
 from keeper.lateness import LEAST, Minute, minutes_of, result, sentences
 from keeper.reference import Server
+from keeper.reporter.decoder import begun, said
 from keeper.supervisor.clocks import counter, tag_of
 from keeper.supervisor.host import Host
 from keeper.supervisor.logs import PulseLog
@@ -33,11 +33,7 @@ def main(asked: argparse.Namespace) -> int:
     if not 0 <= asked.radio < len(settings.radios):
         many = f"the station has {len(settings.radios)}"
         raise Fault(f"there is no radio {asked.radio}: {many}")
-    try:
-        server = Server(asked.server, asked.port, asked.pace) if asked.server else None
-    except (OSError, UnicodeError) as error:
-        why = getattr(error, "strerror", None) or error
-        raise Fault(f"the server {asked.server} can't be asked: {why}") from error
+    server = Server(asked.server, asked.port, asked.pace) if asked.server else None
     print(f"radio {asked.radio} is read for {asked.minutes} min; ^C ends that", flush=True)
     minutes = listen(settings, asked.radio, server, asked.minutes * 60.0)
     print(f"compared with {server.words() if server else HOST_CLOCK}")
@@ -75,7 +71,8 @@ def listen(settings: config.Settings, number: int, server: Server | None,
         raise Fault(f"radio {number}: its source ended: {error}") from error
     except KeyboardInterrupt:
         pass  # what was read up to here counts
-    verdicts = decoded(settings.program, settings.radios[number].plan, pulses)
+    marks = ((one.start, one.width) for one in pulses)
+    verdicts = said(begun(settings.program, settings.radios[number].plan, marks))
     minutes = minutes_of(pulses, verdicts, shift)
     if server is None:
         return minutes
@@ -99,11 +96,3 @@ def heard(settings: config.Settings, number: int, seconds: float) -> Iterator[tu
             today = os.path.join(folder, log.name(time.time()))
             if not piece and path != today and os.path.exists(today):
                 break
-
-
-def decoded(program: str, plan: str, pulses: list[Pulse]) -> list[str]:
-    """The lines of `decode` of these pulses."""
-    words = [program, "decode", "--plan", plan, "--log", "/dev/stdin"]
-    log = b"".join(one.line() for one in pulses)
-    done = subprocess.run(words, input=log, stdout=subprocess.PIPE, stderr=subprocess.DEVNULL)
-    return done.stdout.decode("ascii", "replace").splitlines()

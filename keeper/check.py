@@ -23,27 +23,27 @@ MOST = 1 << 20  # bytes that are looked at of a radio; a source that writes more
 
 def main(asked: argparse.Namespace) -> int:
     """The exit status."""
-    settings = config.load(chosen(asked.config))
-    found = [tell((Level.WELL, f"{settings.path}: every key is known and in range"))]
-    running = lock.is_taken(settings.folder)
-    found += map(tell, host_checks.look_at_ports(settings, running))
-    found += map(tell, host_checks.become_service(settings))
-    found += map(tell, judge_station(settings) + host_checks.look(settings))
-    if running and asked.seconds:
-        said = "a keeper runs and reads the receivers: `radio_keeper status` says how they are"
-        tell((Level.NOTE, said))
-    elif asked.seconds:
-        for place in range(len(settings.radios)):
-            found += map(tell, hear(settings, place, asked.seconds))
-    bad = sum(level == Level.BAD for level, _ in found)
+    bad = 0
+    for level, text in findings(config.load(chosen(asked.config)), asked.seconds):
+        print(plain(f"{level.value:<5} {text}"), flush=True)
+        bad += level is Level.BAD
     print(f"{bad} to mend" if bad else "nothing to mend")
     return NOT_WELL if bad else DONE
 
 
-def tell(finding: Finding) -> Finding:
-    level, text = finding
-    print(plain(f"{level.value:<5} {text}"), flush=True)
-    return finding
+def findings(settings: config.Settings, seconds: int) -> Iterator[Finding]:
+    """All of them, of receivers that are each read for a number of seconds."""
+    yield Level.WELL, f"{settings.path}: every key is known and in range"
+    running = lock.is_taken(settings.folder)
+    yield from host_checks.look_at_ports(settings, running)
+    yield from host_checks.become_service(settings)
+    yield from judge_station(settings)
+    yield from host_checks.look(settings)
+    if running and seconds:
+        yield Level.NOTE, ("a keeper runs and reads the receivers: `radio_keeper status` says how "
+                           "they are")
+    for place in range(len(settings.radios)) if seconds and not running else ():
+        yield from hear(settings, place, seconds)
 
 
 def judge_station(settings: config.Settings) -> list[Finding]:

@@ -7,15 +7,13 @@ from keeper.errors import REFUSED, Fault
 
 HERE = "keeper.toml"
 INSTALLED = "/etc/radio_ntpd/keeper.toml"
+USER, SERVED = "radio_ntpd", "/var/lib/radio_ntpd"  # the installed service's, and its state folder
 BUILT = ("bin/radio_ntpd", "crates/radio_ntpd/out/radio_ntpd")  # as installed, and in a checkout
 
 
 def chosen(named: str | None) -> str:
-    """The file that is named, else the one of the working folder, else the installed one.
-
-    Of the working folder root takes none that another could have written: its commands are run.
-    Raises Fault.
-    """
+    """The file that is named, else the one of the working folder, of which root takes none that
+    another could have written, else the installed one. Raises Fault."""
     if named:
         return named
     is_here = os.path.exists(HERE)

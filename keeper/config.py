@@ -7,7 +7,7 @@ import re
 import subprocess
 import tomllib
 from dataclasses import dataclass, field
-from typing import BinaryIO, NoReturn, TypeVar, cast
+from typing import Any, BinaryIO, NoReturn
 
 from keeper.chosen_file import built_program
 from keeper.errors import REFUSED, Fault, reason, sentence
@@ -16,7 +16,6 @@ from keeper.errors import REFUSED, Fault, reason, sentence
 # old (s).
 UNPACED_CYCLE = 300
 KINDS = ("command", "fifo", "file")
-Value = TypeVar("Value")
 JUDGED = 20.0  # how long the program may take to judge a station file (s)
 MOST = 65536  # bytes of a station file
 LARGEST = 2**53  # no number of a station is greater
@@ -109,9 +108,7 @@ class File:
             self.values: dict = tomllib.loads(self.text)
         except OSError as error:
             raise Fault(sentence(error), REFUSED) from error
-        except UnicodeDecodeError as error:
-            raise Fault(f"{path}: it isn't UTF-8", REFUSED) from error
-        except (ValueError, RecursionError) as error:  # also a number of thousands of digits
+        except (ValueError, RecursionError) as error:  # also of UTF-8, or a long number
             raise Fault(f"{path}: it is no TOML: {error}", REFUSED) from error
 
     def beside(self, name: str) -> str:
@@ -157,23 +154,21 @@ class File:
 
 # Of the station, which the program judges later, and which may have anything now.
 
-def _value(values: dict, key: str, default: Value) -> Value:
+def _value(values: dict, key: str, default: Any) -> Any:
     """A value of the default's type; the default where it is none, or a number so great that the
     program refuses it anyway."""
     value = values.get(key)
     is_good = type(value) is type(default) and (type(value) is not int or abs(value) < LARGEST)
-    return cast(Value, value) if is_good else default
+    return value if is_good else default
 
 
 def _tables(values: dict, key: str) -> list[dict]:
-    """The tables of an array."""
-    rows: list = _value(values, key, [])
-    return [one for one in rows if isinstance(one, dict)]
+    return [one for one in _value(values, key, []) if isinstance(one, dict)]
 
 
 def _port(values: dict) -> int:
     """The port of a link or a server, 1 to 65535; 0 where it has none."""
-    port = _value(values, "port", 0)
+    port: int = _value(values, "port", 0)
     return port if 0 < port < 65536 else 0
 
 
@@ -188,9 +183,9 @@ def load(path: str) -> Settings:
         file.refuse("station", "it is missing")
     station_path = file.beside(values["station"])
     station = File(station_path).values
-    tables, radios = _tables(station, "radio"), values.get("radio", [])
-    for place, radio in enumerate(radios):
-        _judge_radio(file, radio, place)
+    tables = dict(enumerate(_tables(station, "radio")))
+    radios = [_radio(file, one, place, tables.get(place, {}))
+              for place, one in enumerate(values.get("radio", []))]
     if len(radios) != len(tables):
         file.refuse("radio", f"there are {len(radios)} tables [[radio]] here, and {len(tables)} in "
                     f"{station_path}")
@@ -203,7 +198,7 @@ def load(path: str) -> Settings:
         folder=folder, runtime=file.beside(values.get("runtime", folder)),
         cycle=values.get("cycle", UNPACED_CYCLE if servers and not pace else 3600),
         days=values.get("days", 30), room=values.get("room", 1000) * 1_000_000, pace=pace,
-        radios=[_radio(file, *both) for both in zip(radios, tables)],
+        radios=radios,
         links=[port for one in _tables(station, "link") if (port := _port(one))],
         servers=servers,
         denied=[net for one in _tables(station, "deny") if (net := _value(one, "net", ""))],
@@ -211,7 +206,8 @@ def load(path: str) -> Settings:
         leap_file=_value(station, "leap_file", "") or None, alarms=Alarms(**alarms))
 
 
-def _judge_radio(file: File, values: object, place: int) -> None:
+def _radio(file: File, values: object, place: int, table: dict) -> Radio:
+    """A radio of the keeper's file, at its place, and its table of the station."""
     if not isinstance(values, dict):
         raise Fault(f"{file.path}: radio.{place}: it is no table", REFUSED)
     file.judge(values, RADIO, "radio", place)
@@ -219,36 +215,30 @@ def _judge_radio(file: File, values: object, place: int) -> None:
     if len(named) != 1:
         why = "one of command, fifo and file must stand there, and no more than one"
         file.refuse(named[1] if named else "command", why, "radio", place)
-    if not values.get("name", "").isprintable():
+    plan, value = _value(table, "plan", ""), values[named[0]]
+    name = values.get("name", plan)
+    if "name" in values and not name.isprintable():
         file.refuse("name", "it has a character that can't be printed", "radio", place)
-
-
-def _radio(file: File, values: dict, table: dict) -> Radio:
-    """A radio of the keeper's file, and its table of the station."""
-    kind = next(kind for kind in KINDS if kind in values)
-    value = values[kind] if kind == "command" else file.beside(values[kind])
-    plan = _value(table, "plan", "")
-    return Radio(kind, value, values.get("name", plan), values.get("stall", 60), plan,
-                 _value(table, "delay", 0) / 1e6, values.get("steady", False))
+    return Radio(named[0], value if named == ["command"] else file.beside(value), name,
+                 values.get("stall", 60), plan, _value(table, "delay", 0) / 1e6,
+                 values.get("steady", False))
 
 
 def judge(settings: Settings) -> None:
     """Asks the program itself whether the station is valid. Raises Fault with its sentence and its
     status."""
-    program, station = settings.program, settings.station
-    words = [program, "replay", "--station", station, "--script", "/dev/null"]
+    program, station = f"the program {settings.program}", settings.station
+    words = [settings.program, "replay", "--station", station, "--script", "/dev/null"]
     try:
         done = subprocess.run(words, stdin=subprocess.DEVNULL, capture_output=True, timeout=JUDGED)
     except OSError as error:
-        raise Fault(f"the program {program} can't be run: {error.strerror}") from error
+        raise Fault(f"{program} can't be run: {error.strerror}") from error
     except subprocess.TimeoutExpired as error:
-        said = f"doesn't judge the station within {JUDGED:.0f} s"
-        raise Fault(f"the program {program} {said}") from error
-    said = done.stdout.decode("ascii", "replace")
-    last = said.splitlines()[-1:] or [f"it ends with {done.returncode}"]
+        raise Fault(f"{program} doesn't judge the station within {JUDGED:.0f} s") from error
+    said = done.stdout.decode("ascii", "replace").splitlines()[-1:]
     if done.returncode != 0:
         why = reason(done.stderr).removeprefix(f"the station file ({station}): ")
-        raise Fault(f"{station}: {why or 'the program refuses it'} ({last[0]})", REFUSED)
-    if last != ["status 0"]:
-        why = "it judged the station without a status"
-        raise Fault(f"the program {program} isn't radio_ntpd: {why}", REFUSED)
+        last = said[0] if said else f"it ends with {done.returncode}"
+        raise Fault(f"{station}: {why or 'the program refuses it'} ({last})", REFUSED)
+    if said != ["status 0"]:
+        raise Fault(f"{program} isn't radio_ntpd: it judged the station without a status")

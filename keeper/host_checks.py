@@ -5,27 +5,23 @@ import errno
 import os
 import pwd
 import re
-import shlex
 import shutil
 import socket
 import stat
-import time
+import subprocess
+from collections.abc import Iterator
 
-from keeper.chosen_file import INSTALLED
+from keeper.chosen_file import INSTALLED, SERVED, USER
 from keeper.config import Radio, Settings, opened
 from keeper.receiver import Finding, Level
 
 CLOCKS = "/sys/devices/system/clocksource/clocksource0"
 GOOD_CLOCKS = ("tsc", "arch_sys_counter", "kvm-clock", "hyperv_clocksource_tsc_page", "xen",
                "riscv_clocksource", "stp", "timer")
-WRAPPERS = ("exec", "stdbuf", "nice", "env")  # the program stands after one of them, or of these:
-NO_PROGRAM = re.compile(r"\w+=.*|-.*")
-FEEDER = "edges_to_log.py"  # its command stands after it
-BUILT_IN = {"cd", "while", "for", "if", "do", "done", "then", "fi", "read", "umask", "ulimit",
-            "trap", ":", ".", "(", "{", "}"}
-READS = 200  # of the clock, to see how long one takes
-USER = "radio_ntpd"  # the service's
-SERVED = "/var/lib/radio_ntpd"  # its state folder
+QUOTED, BETWEEN = re.compile(r"'[^']*'|\"[^\"]*\""), re.compile(r"[|;]|(?<!>)&")
+# A program stands after one of these, or of a feeder, which is one itself.
+BEFORE = re.compile(r"exec|stdbuf|nice|env|\w+=.*|-.*")
+FEEDER = "edges_to_log.py"
 
 
 def name_of(place: int, radio: Radio) -> str:
@@ -33,24 +29,27 @@ def name_of(place: int, radio: Radio) -> str:
     return f"radio {place} ({radio.name or radio.plan})"
 
 
-def look(settings: Settings) -> list[Finding]:
+def look(settings: Settings) -> Iterator[Finding]:
     """All but the ports."""
-    found: list[Finding] = []
     for place, radio in enumerate(settings.radios):
-        found += [look_at_source(radio, place), *look_at_steady(radio, place)]
+        yield look_at_source(radio, place)
+        if radio.steady and radio.kind == "command" and "steady.py" in radio.value:
+            yield Level.BAD, (f"{name_of(place, radio)}: its command steadies it too: take "
+                              "`steady.py` out of the command, so that the log has its pulses as "
+                              "they came")
     if settings.alarms.command:
-        found.append(_look_at_command("alarms.command", settings.alarms.command))
-    return [*found, look_at_clock(), look_at_folder(settings.folder)]
+        yield _look_at_command("alarms.command", settings.alarms.command)
+    yield look_at_clock()
+    yield look_at_folder(settings.folder)
 
 
-def look_at_ports(settings: Settings, running: bool) -> list[Finding]:
+def look_at_ports(settings: Settings, running: bool) -> Iterator[Finding]:
     """Where a keeper is running its ports are taken by itself."""
     if not settings.links:
-        return [(Level.NOTE, "the station has no [[link]]: nobody is answered")]
-    if running:
-        return [(Level.WELL, f"port {one} is served by the keeper that runs")
-                for one in settings.links]
-    return [look_at_port(one) for one in settings.links]
+        yield Level.NOTE, "the station has no [[link]]: nobody is answered"
+    for one in settings.links:
+        said = Level.WELL, f"port {one} is served by the keeper that runs"
+        yield said if running else look_at_port(one)
 
 
 def look_at_port(port: int) -> Finding:
@@ -89,62 +88,44 @@ def look_at_source(radio: Radio, place: int) -> Finding:
     return Level.WELL, f"{name}: {path} is there"
 
 
-def look_at_steady(radio: Radio, place: int) -> list[Finding]:
-    """Whether a radio that is to be steadied is so once alone."""
-    if not radio.steady:
-        return []
-    name = name_of(place, radio)
-    if radio.kind == "command" and "steady.py" in radio.value:
-        out = "take `steady.py` out of the command, so that the log has its pulses as they came"
-        return [(Level.BAD, f"{name}: its command steadies it too: {out}")]
-    when = "two minutes after they begin as well as can be"
-    return [(Level.WELL, f"{name}: its marks will be steadied, {when}")]
-
-
 def _look_at_command(name: str, command: str) -> Finding:
-    programs = [one for part in re.split(r"\|\|?|&&|;", command) for one in _programs_of(part)]
-    missing = [one for one in programs if shutil.which(one) is None]
+    missing = [one for one in _programs_of(command) if not _is_program(one)]
     if missing:
         hint = "; `apt install gpiod` has it" if "gpiomon" in missing else ""
         return Level.BAD, f"{name}: there is no program {', '.join(missing)}{hint}"
     return Level.WELL, f"{name}: the programs of its command are there"
 
 
-def _programs_of(part: str) -> list[str]:
-    """The programs that a simple command begins: one, and a feeder's own command; none where only
-    the shell itself knows."""
-    try:
-        words = shlex.split(part)
-    except ValueError:
-        return []
-    found: list[str] = []
-    for word in words:
-        if word in WRAPPERS or NO_PROGRAM.fullmatch(word):
-            continue
-        if word in BUILT_IN or set(word) & set("$*?<>&()`"):
-            break
-        found.append(word)
-        if os.path.basename(word) != FEEDER:
-            break
-    return found
+def _programs_of(command: str) -> Iterator[str]:
+    """The programs that a command begins, where not only the shell itself knows them."""
+    for part in BETWEEN.split(QUOTED.sub("'", command)):
+        for word in part.split():
+            if BEFORE.fullmatch(word):
+                continue
+            if set(word) & set("$*?<>&()`'\""):
+                break
+            yield word
+            if os.path.basename(word) != FEEDER:
+                break
+
+
+def _is_program(word: str) -> bool:
+    """Whether the shell that runs commands knows this one, be it a word of its own."""
+    words = ["/bin/sh", "-c", 'command -v -- "$1"', "sh", word]
+    return subprocess.run(words, stdout=subprocess.DEVNULL).returncode == 0
 
 
 def look_at_clock(folder: str = CLOCKS) -> Finding:
-    """Which counter the kernel reads, and how long one reading takes."""
+    """Which counter the kernel reads."""
     try:
         with open(os.path.join(folder, "current_clocksource"), encoding="ascii") as file:
             name = file.read().strip()
     except OSError:
         return Level.NOTE, "the kernel doesn't say which clock source it has"
-    began = time.monotonic_ns()
-    for _ in range(READS):
-        time.monotonic_ns()
-    took = (time.monotonic_ns() - began) / READS / 1e3
     if name.startswith(GOOD_CLOCKS):
-        return Level.WELL, f"the clock source is {name}; a reading takes {took:.2f} us"
+        return Level.WELL, f"the clock source is {name}"
     others = f"`cat {folder}/available_clocksource` lists others"
-    slow = f"which is slow or coarse ({took:.2f} us a reading)"
-    return Level.NOTE, f"the clock source is {name}, {slow}; {others}"
+    return Level.NOTE, f"the clock source is {name}, which is slow or coarse; {others}"
 
 
 def look_at_folder(folder: str) -> Finding:
@@ -158,14 +139,12 @@ def look_at_folder(folder: str) -> Finding:
         if folder == SERVED and there != folder:
             return Level.WELL, f"{folder} is made by the unit as it starts"
         return Level.NOTE, f"you may not write into {there}; the service's user has to"
-    free = shutil.disk_usage(there).free
-    if free < 1 << 20:
-        what = "logs, journals and the state can't be written"
-        return Level.BAD, f"{there} has {free >> 10} KB left: {what}"
-    if free < 1 << 28:
-        need = "a radio's logs and journals of a month take about 20 MB"
-        return Level.NOTE, f"{there} has {free >> 20} MB left; {need}"
-    return Level.WELL, f"{folder} can be written, {free >> 20} MB are free"
+    free = shutil.disk_usage(there).free >> 20
+    if free < 256:
+        level = Level.NOTE if free else Level.BAD
+        return level, (f"{there} has {free} MB left; a radio's logs and journals of a month take "
+                       "about 20 MB")
+    return Level.WELL, f"{folder} can be written, {free} MB are free"
 
 
 def become_service(settings: Settings, user: str = USER) -> list[Finding]:

@@ -3,6 +3,7 @@
 import argparse
 import grp
 import os
+import re
 import runpy
 import shutil
 import subprocess
@@ -10,14 +11,13 @@ from collections.abc import Callable, Iterator
 from functools import partial
 from pathlib import Path
 
-from keeper.chosen_file import BUILT, built_program
+from keeper.chosen_file import BUILT, USER, built_program
 from keeper.whole_files import LINK, Tree, file_at, has_tree, put_file, put_folder
 from keeper.errors import DONE, Fault
 
 Step = tuple[str, Callable[[], object]]  # what is done, and what does it
-USER = "radio_ntpd"
-HOME = "/var/lib/radio_ntpd"
 SETTINGS = "/etc/radio_ntpd"
+SYSTEMD = "/run/systemd/system"  # is there where systemd is the host's
 UNITS = ("radio_ntpd.socket", "radio_ntpd.service")
 USERS, MODES = f"{{system}}/sysusers.d/{USER}.conf", f"{{system}}/tmpfiles.d/{USER}.conf"
 # Where each file of the sources goes, and what a link leads to: `system` is where the host looks
@@ -62,20 +62,15 @@ class Places:
         return (TOP / source).read_bytes().replace(b"@PREFIX@", self.prefix.encode())
 
 
-def scripts(folder: str) -> list[str]:
-    """The files of a folder of the sources that are installed: no tests, no hidden ones."""
-    found = (one.relative_to(TOP) for one in (TOP / folder).rglob("*") if one.is_file())
-    left_out = (".", "test_", "__pycache__")
-    return sorted(str(one) for one in found if one.parts[1] != "tests"
-                  and not any(part.startswith(left_out) for part in one.parts))
-
-
 def library(program: str) -> Tree:
-    """The folder of the program and the keeper. Raises OSError."""
-    names = ["radio_keeper", *scripts("keeper"), *scripts("feeders")]
-    names += [f"tools/{name}" for name in TOOLS] + [f"lab/model/{name}" for name in MODEL]
-    tree = {name: ((TOP / name).read_bytes(), 0o755 if os.access(TOP / name, os.X_OK) else 0o644)
-            for name in names}
+    """The folder of the program and the keeper: no tests, no hidden files. Raises OSError."""
+    found = [TOP / "radio_keeper", *(TOP / "tools" / name for name in TOOLS),
+             *(TOP / "lab/model" / name for name in MODEL)]
+    for folder in ("keeper", "feeders"):
+        found += [one for one in (TOP / folder).rglob("*") if one.is_file() and not re.search(
+            r"/(\.|test_|tests/|__pycache__)", str(one.relative_to(TOP)))]
+    tree = {str(one.relative_to(TOP)): (one.read_bytes(), 0o755 if os.access(one, os.X_OK)
+                                        else 0o644) for one in sorted(found)}
     return {"bin/radio_ntpd": (Path(program).read_bytes(), 0o755), **tree}
 
 
@@ -109,35 +104,34 @@ def command(*words: str) -> None:
 
 
 def host_steps(places: Places, is_new: bool) -> Iterator[Step]:
-    """The user and its groups, and what systemd has to know. `is_new`: a file is written."""
-    yield f"make the system user {USER}", partial(command, "systemd-sysusers", places.at(USERS))
-    if any(group.gr_name == "gpio" for group in grp.getgrall()):
-        what = f"put {USER} into the group gpio, whose devices it then may read"
-        yield what, partial(command, "usermod", "-aG", "gpio", USER)
-    what = f"let the group {USER} read {places.settings}, which may have what isn't for everybody"
-    yield what, partial(command, "systemd-tmpfiles", "--create", places.at(MODES))
-    yield from systemd_step("have systemd read its units anew", "daemon-reload")
-    if is_new:
-        yield from systemd_step("start the service again, if it runs", "try-restart", USER)
-
-
-def systemd_step(what: str, *words: str) -> Iterator[Step]:
-    """What systemd has to do, where it is the host's."""
-    if os.path.isdir("/run/systemd/system"):
-        yield what, partial(command, "systemctl", *words)
+    """The user and its groups, and what systemd has to know, where it is the host's. `is_new`: a
+    file is written."""
+    has_gpio = any(group.gr_name == "gpio" for group in grp.getgrall())
+    has_systemd = os.path.isdir(SYSTEMD)
+    rows: tuple[tuple[bool, str, tuple[str, ...]], ...] = (
+        (True, f"make the system user {USER}", ("systemd-sysusers", places.at(USERS))),
+        (has_gpio, f"put {USER} into the group gpio, whose devices it then may read",
+         ("usermod", "-aG", "gpio", USER)),
+        (True, f"let the group {USER} read {places.settings}, which may have what isn't for "
+         "everybody", ("systemd-tmpfiles", "--create", places.at(MODES))),
+        (has_systemd, "have systemd read its units anew", ("systemctl", "daemon-reload")),
+        (has_systemd and is_new, "start the service again, if it runs",
+         ("systemctl", "try-restart", USER)))
+    yield from ((what, partial(command, *words)) for is_due, what, words in rows if is_due)
 
 
 def removing(places: Places, here: bool) -> Iterator[Step]:
     """All of it again, but for what is the operator's: settings, journals, logs, their user."""
     there = [path for path in map(places.at, (*FILES, *LINKS)) if os.path.lexists(path)]
+    here = here and os.path.isdir(SYSTEMD)
     if here and there:
-        yield from systemd_step("stop the service", "disable", "--now", *UNITS)
+        yield "stop the service", partial(command, "systemctl", "disable", "--now", *UNITS)
     for path in there:
         yield f"remove {path}", partial(os.unlink, path)
     if os.path.lexists(places.library):
         yield f"remove {places.library}", partial(shutil.rmtree, places.library)
     if here:
-        yield from systemd_step("have systemd read its units anew", "daemon-reload")
+        yield "have systemd read its units anew", partial(command, "systemctl", "daemon-reload")
 
 
 def named_program(named: str | None) -> str:

@@ -6,6 +6,7 @@ from collections.abc import Iterable
 from dataclasses import dataclass, replace
 
 from keeper.ntp import EPOCH
+from keeper.reporter.decoder import closed
 from keeper.reporter.rules import PLANS
 from keeper.supervisor.pulses import Pulse
 
@@ -16,19 +17,17 @@ LEAST = 5  # with fewer minutes nothing is said
 # may have begun, too.
 FEWEST = LEAST + 3
 MOST_DELAY = 0.1  # the greatest delay of a station (s)
-GROUPS = 3  # minutes are split into this number of parts by the widths of their marks
 
 
 @dataclass(frozen=True)
 class Minute:
     """A minute that was believed. `at`: when it closed, by the host's clock (Unix s). `late`: how
     late its marks came by that clock, their median (s). `closing`: the same of the closing mark
-    alone (s). `width`: the median width of its shorter marks (s)."""
+    alone (s)."""
 
     at: float
     late: float
     closing: float
-    width: float
 
     def moved(self, offset: float) -> "Minute":
         """The same by a clock that is ahead of the host's by this (s)."""
@@ -38,23 +37,19 @@ class Minute:
 @dataclass(frozen=True)
 class Result:
     """`late`: how late the marks come, the median of the minutes (s); `error`: its standard error
-    (s). `spread`: of closing marks, robust standard deviation (s). `groups`: the width (s) and the
-    lateness (s) of the weakest, middle and strongest third, empty where it doesn't wander."""
+    (s). `spread`: of closing marks, robust standard deviation (s)."""
 
     minutes: int
     late: float
     error: float
     spread: float
-    groups: list[tuple[float, float]]
 
 
 def minutes_of(pulses: list[Pulse], lines: Iterable[str], shift: float) -> list[Minute]:
     """The minutes of these pulses that these lines of `decode` believe. `shift` is what is to be
     added to the counter to have Unix seconds."""
-    words = [line.split() for line in lines]
-    found = [_minute(pulses, int(one[1]), int(one[3]) - EPOCH, shift) for one in words
-             if len(one) == 5 and one[2] == "verdict" and (one[1] + one[3]).isdecimal()
-             and len(one[1] + one[3]) < 30]
+    found = [_minute(pulses, minute[0], minute[2] - EPOCH, shift) for minute in map(closed, lines)
+             if minute and minute[1] == "verdict"]
     return [one for one in found if one]
 
 
@@ -69,11 +64,7 @@ def _minute(pulses: list[Pulse], close: int, second: int, shift: float) -> Minut
 
     closing = lateness(close)
     late = [one for mark in marks if abs((one := lateness(mark.start)) - closing) < WILD]
-    if not late:
-        return None
-    widths = sorted(mark.width for mark in marks)
-    width = statistics.median(widths[:len(widths) // 2 + 1]) / 1e6
-    return Minute(close / 1e6 + shift, statistics.median(late), closing, width)
+    return Minute(close / 1e6 + shift, statistics.median(late), closing) if late else None
 
 
 def deviation(values: list[float]) -> float:
@@ -94,24 +85,7 @@ def result(minutes: list[Minute]) -> Result | None:
         return None
     late = [one.late for one in minutes]
     spread = deviation([one.closing for one in minutes])
-    return Result(len(late), statistics.median(late), error_of(late), spread, _groups(minutes))
-
-
-def _groups(minutes: list[Minute]) -> list[tuple[float, float]]:
-    """The thirds by width, where the lateness of the outer ones differs by more than chance and by
-    more than half a millisecond."""
-    if len(minutes) < GROUPS * LEAST:
-        return []
-    ordered = sorted(minutes, key=lambda one: one.width)
-    part = len(ordered) // GROUPS
-    thirds = (ordered[:part], ordered[part:-part], ordered[-part:])
-    late = [[one.late for one in third] for third in thirds]
-    middles = [statistics.median(one) for one in late]
-    chance = 3 * (error_of(late[0]) ** 2 + error_of(late[-1]) ** 2) ** 0.5
-    if abs(middles[0] - middles[-1]) < max(0.0005, chance):
-        return []
-    widths = [statistics.median(one.width for one in third) for third in thirds]
-    return list(zip(widths, middles))
+    return Result(len(late), statistics.median(late), error_of(late), spread)
 
 
 def sentences(found: Result, plan: str, now: int) -> list[str]:
@@ -119,10 +93,6 @@ def sentences(found: Result, plan: str, now: int) -> list[str]:
     late, error, spread = (f"{one * 1e3:.2f} ms" for one in (found.late, found.error, found.spread))
     said = [f"the marks of {PLANS.get(plan, plan)} come {late} late, within {error}; a closing "
             f"mark scatters by {spread}"]
-    if found.groups:
-        wanders = (f"{late * 1e3:.2f} ms with marks of {width * 1e3:.0f} ms"
-                   for width, late in found.groups)
-        said.append(f"it wanders with the signal: {', '.join(wanders)}")
     if 0 <= found.late <= MOST_DELAY:
         return [*said, f"set in the station file: delay = {round(found.late * 1e6)} (it is {now})"]
     why = "the reference is off, or the receiver's output is the other way round"

@@ -79,8 +79,7 @@ def own_addresses(denied: list[str], gap: float) -> list[str]:
             nets.append(ipaddress.IPv4Network(text, strict=False))
     count = min(MOST_ADDRESSES, math.floor(gap / ASKED) + 2)
     loopback = ipaddress.IPv4Network("127.0.0.0/8")
-    is_all_denied = any(net.supernet_of(loopback) for net in nets)
-    for block in range(0 if is_all_denied else 1 << 16):
+    for block in range(1 << 16):
         # One block of 256 addresses after the other, from ours on and around.
         first = (int(FROM) - int(loopback[0]) + (block << 8)) % loopback.num_addresses
         good = [loopback[first] + place for place in range(count)]

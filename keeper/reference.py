@@ -5,6 +5,7 @@ import time
 from dataclasses import dataclass
 
 from keeper import ntp
+from keeper.errors import Fault
 
 WAIT = 1.0  # for an answer (s)
 NEAREST = 5  # of the exchanges that lie nearest to a moment the one with the least delay counts
@@ -21,8 +22,7 @@ class Exchange:
 
 
 class Server:
-    """It is asked once in `pace` seconds. Raises OSError or UnicodeError where it has no
-    address."""
+    """It is asked once in `pace` seconds. Raises Fault where it has no address."""
 
     def __init__(self, address: str, port: int, pace: float) -> None:
         self.pace, self.due, self.refused = pace, 0.0, 0
@@ -30,9 +30,10 @@ class Server:
         self.socket = socket.socket(socket.AF_INET, socket.SOCK_DGRAM)
         try:
             self.socket.connect((address, port))
-        except (OSError, UnicodeError):
+        except (OSError, UnicodeError) as error:
             self.socket.close()
-            raise
+            why = getattr(error, "strerror", None) or error
+            raise Fault(f"the server {address} can't be asked: {why}") from error
 
     def turn(self, now: float) -> None:
         """Asks where it is time to (`now` in monotonic s), and waits a second at most."""

@@ -8,6 +8,7 @@ import os
 import sys
 import time
 
+from keeper.chosen_file import HERE, INSTALLED, SERVED
 from keeper.config import File, opened
 from keeper.durations import span
 from keeper.errors import DONE, UNKNOWN, Fault
@@ -19,9 +20,9 @@ from keeper.reporter.state import read as read_state
 from keeper.reporter.station_state import Station
 from keeper.supervisor.reports import FACTS
 
-FOLDERS = ["/run/radio_ntpd", "/var/lib/radio_ntpd"]
+FOLDERS = ["/run/radio_ntpd", SERVED]
 STANDS = 30.0  # a reporter that has drawn nothing for so long stands still (s)
-FILES = ("keeper.toml", "/etc/radio_ntpd/keeper.toml")
+FILES = (HERE, INSTALLED)
 CLEAR = "\033[H\033[2J"
 
 

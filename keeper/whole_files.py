@@ -1,13 +1,10 @@
-"""Files and folders that are put in their place whole, or not at all."""
+"""Files that are put in their place whole, or not at all, and folders of them."""
 
-import ctypes
-import errno
 import os
 import stat
 import tempfile
 
 LINK = -1  # stands for the mode of a symbolic link, whose text is what it leads to
-AT_FDCWD, RENAME_EXCHANGE = -100, 2  # linux/fcntl.h, linux/fs.h
 File = tuple[bytes, int]  # its text and its mode
 Tree = dict[str, File]  # the files of a folder, by their names in it
 
@@ -50,31 +47,14 @@ def put_file(path: str, text: bytes, mode: int) -> None:
 
 
 def put_folder(path: str, tree: Tree) -> None:
-    """Puts a folder with these files, and no other, in its place. Raises OSError."""
-    folder = os.path.dirname(path)
-    os.makedirs(folder, exist_ok=True)
-    with tempfile.TemporaryDirectory(dir=folder, prefix=".") as room:
-        for name, (text, mode) in tree.items():
-            put_file(os.path.join(room, "new", name), text, mode)
-        if os.path.isdir(path):
-            exchange(os.path.join(room, "new"), path, os.path.join(room, "old"))
-        else:
-            os.rename(os.path.join(room, "new"), path)
-
-
-def exchange(new: str, path: str, old: str) -> None:
-    """Gives a folder the place of another one, at once where the file system can do that. The
-    other one is `new` or `old` then. Raises OSError."""
-    renameat2 = ctypes.CDLL(None, use_errno=True).renameat2
-    names = AT_FDCWD, os.fsencode(new), AT_FDCWD, os.fsencode(path)
-    if renameat2(*names, RENAME_EXCHANGE) == 0:
-        return
-    refused = ctypes.get_errno()
-    if refused not in (errno.EINVAL, errno.ENOSYS):
-        raise OSError(refused, os.strerror(refused), path)
-    os.rename(path, old)
-    try:
-        os.rename(new, path)
-    except OSError:
-        os.rename(old, path)
-        raise
+    """Puts these files into a folder, one after the other as dpkg does, and then removes others. At
+    each moment it has each file of the old version or of the new one. Raises OSError."""
+    for name, (text, mode) in tree.items():
+        put_file(os.path.join(path, name), text, mode)
+    for folder, _, names in os.walk(path, topdown=False):
+        os.chmod(folder, 0o755)
+        for whole in (os.path.join(folder, name) for name in names):
+            if os.path.relpath(whole, path) not in tree:
+                os.unlink(whole)
+        if not os.listdir(folder):
+            os.rmdir(folder)

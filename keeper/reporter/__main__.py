@@ -14,6 +14,7 @@ import select
 import sys
 import time
 from collections.abc import Callable, Mapping
+from datetime import datetime, timedelta, timezone
 
 from keeper import config
 from keeper.errors import Fault
@@ -23,7 +24,6 @@ from keeper.reporter.state import State, load, put, save, text_of
 from keeper.reporter.station_state import Facts, Station
 from keeper.reporter.tidy import tidy
 from keeper.supervisor.clocks import Clocks
-from keeper.supervisor.disk import day_of
 from keeper.supervisor.host import Host, say
 
 Render = Callable[[State, float], str]
@@ -65,19 +65,20 @@ class Reporter:
         """One round."""
         if select.select([0], [], [], TURN)[0]:
             self._read()
-        if self.station is None:
+        if (station := self.station) is None:
             return
         if step := self.clocks.step():
-            self.station.move(step)
+            station.move(step)
             self.alarms.move(step)
             self.due["renew"] = 0.0  # who reads the age of what is shown counts by the new clock
-        self._try("what decode says", self.station.turn)
-        self._try("alarms", self._judge, self.station)
+        for radio in station.radios:
+            self._try(f"decode of radio {radio.radio.number}", radio.decode, time.time())
+        self._try("alarms", self._judge, station)
         if self._is_due("renew", RENEWED):
-            self._renew(self.station)
+            self._renew(station)
         if self._is_due("save", SAVED) and self.facts["folder"] != self.folder:
             path = os.path.join(self.facts["folder"], STATE)
-            self._try("the state", save, self.host, self.station.state, path)
+            self._try("the state", save, self.host, station.state, path)
         if self._is_due("tidy", SAVED) and not self.is_over:
             self._try("logs and journals", self._tidy)
 
@@ -98,24 +99,21 @@ class Reporter:
     def _take(self, line: bytes) -> None:
         message = json.loads(line)
         if "facts" in message:
-            self._take_facts(message["facts"])
+            facts = self.facts = message["facts"]
+            station = self.station = self.station or self._begin(facts)
+            station.take(facts)
+            self._try("the last journal", station.read_journal, facts)
+            self.alarms.settings = config.Alarms(**facts["alarms"])
         elif self.station:
             self.station.heard(message["radio"], message["pulses"])
-
-    def _take_facts(self, facts: Facts) -> None:
-        self.facts = facts
-        station = self.station = self.station or self._begin(facts)
-        station.take(facts)
-        self._try("the last journal", station.read_journal, facts)
-        self.alarms.settings = config.Alarms(**facts["alarms"])
 
     def _begin(self, facts: Facts) -> Station:
         """Goes on with what a reporter before this one left."""
         before = last_state(*(os.path.join(one, STATE) for one in (self.folder, facts["folder"])))
-        station, is_same = Station(before), before and before.keeper_pid == facts["pid"]
-        run = station.state.run.number if is_same else 0
-        self.alarms.recall(station.state.alarms, facts["since"], run)
-        return station
+        is_same = before and before.keeper_pid == facts["pid"]
+        if before:
+            self.alarms.recall(before.alarms, facts["since"], before.run.number * bool(is_same))
+        return Station(before)
 
     def _judge(self, station: Station) -> None:
         state = station.state
@@ -139,12 +137,11 @@ class Reporter:
         put(self.host, os.path.join(self.folder, name), render(state, now))
 
     def _tidy(self) -> None:
-        now, facts = time.time(), self.facts
-        recent = {day_of(now), day_of(now - 3600)}
-        for name in ("logs", "journals"):
-            folder = os.path.join(facts["folder"], name)
+        now, facts = datetime.now(timezone.utc), self.facts
+        today, recent = now.date(), {now.date(), (now - timedelta(hours=1)).date()}
+        for folder in (os.path.join(facts["folder"], name) for name in ("logs", "journals")):
             if os.path.isdir(folder):
-                tidy(self.host, folder, day_of(now), facts["days"], facts["room"], recent)
+                tidy(self.host, folder, today, facts["days"], facts["room"], recent)
 
     def _try(self, what: str, part: Callable[..., object], *given: object) -> None:
         """Whatever goes wrong in one part leaves the others alone; it is said once."""
@@ -158,11 +155,6 @@ class Reporter:
         else:
             self.failed.discard(what)
 
-    def close(self) -> None:
-        self.alarms.commands.close()
-        if self.station:
-            self.station.close()
-
 
 def main(folder: str) -> int:
     for one in ("PYTHONPATH", "PYTHONDONTWRITEBYTECODE"):
@@ -175,7 +167,7 @@ def main(folder: str) -> int:
         while not reporter.is_over:
             reporter.turn()
     finally:
-        reporter.close()
+        reporter.alarms.commands.close()
     return 0
 
 

@@ -1,64 +1,32 @@
-"""`decode` beside a radio, so that one sees live what its log comes to. It never holds anybody up,
-and starts again by itself."""
+"""`decode` of a radio's pulses: what it says, and the minute of each line."""
 
-import contextlib
 import os
+import re
 import subprocess
-from collections.abc import Callable
-from typing import IO, cast
+from collections.abc import Iterable
 
-PAUSE = 10.0  # between two starts (s)
-MOST = 4096  # what is read of its output in one go, in bytes
+LINE = re.compile(r"\d+ (\d{1,19}) (verdict|lone|differs|refused) (\d{1,19})( \d{1,19})*", re.ASCII)
+Child = subprocess.Popen[bytes]
 
 
-class Decoder:
-    """One `decode --plan PLAN` of this program; `tell` gets each line of its output."""
+def begun(program: str, plan: str, pulses: Iterable[tuple[int, int]]) -> Child:
+    """`decode` of these starts and widths (us). It neither waits nor is waited for. Raises
+    OSError."""
+    with open(os.memfd_create("log"), "w+b") as log:
+        log.writelines(b"%d %d\n" % one for one in pulses)
+        log.seek(0)
+        words = [program, "decode", "--plan", plan, "--log", "/dev/stdin"]
+        return subprocess.Popen(words, stdin=log, stdout=subprocess.PIPE,
+                                stderr=subprocess.DEVNULL)
 
-    def __init__(self, program: str, plan: str, tell: Callable[[str], None]) -> None:
-        self.words = [program, "decode", "--plan", plan, "--log", "/dev/stdin"]
-        self.tell = tell
-        self.child: subprocess.Popen[bytes] | None = None
-        self.due = 0.0
-        self.half = b""
 
-    def _start(self, now: float) -> None:
-        self.due, self.half = now + PAUSE, b""
-        with contextlib.suppress(OSError):
-            self.child = subprocess.Popen(self.words, bufsize=0, stdin=subprocess.PIPE,
-                                          stdout=subprocess.PIPE, stderr=subprocess.DEVNULL)
-            for pipe in (self.child.stdin, self.child.stdout):
-                os.set_blocking(cast(IO[bytes], pipe).fileno(), False)
+def said(child: Child) -> list[str]:
+    """The whole lines that it has said, once it has ended."""
+    return child.communicate()[0].decode("ascii", "replace").split("\n")[:-1]
 
-    def give(self, lines: bytes, now: float) -> None:
-        """Whole lines of the log, at this moment of the monotonic clock (s). Where it can't take
-        them all it is started anew, later: half a line would corrupt what follows."""
-        if self.child is None and now >= self.due:
-            self._start(now)
-        if self.child and self.child.stdin:
-            try:
-                is_taken = self.child.stdin.write(lines) == len(lines)
-            except OSError:
-                is_taken = False
-            if not is_taken:
-                self.close()
 
-    def turn(self) -> None:
-        """Reads what there is. Call it once a second or more often."""
-        while self.child and self.child.stdout:
-            try:
-                piece = os.read(self.child.stdout.fileno(), MOST)
-            except BlockingIOError:
-                return
-            *lines, self.half = (self.half + piece).split(b"\n")
-            if not piece:
-                self.close()
-            for line in lines:
-                self.tell(line.decode("ascii", "replace"))
-
-    def close(self) -> None:
-        """Ends it; it is started again by the next `give` after the pause."""
-        child, self.child = self.child, None
-        if child is not None:
-            child.kill()  # it keeps nothing that could be lost
-            with child:  # its pipes are closed, and it is waited for
-                pass
+def closed(line: str) -> tuple[int, str, int] | None:
+    """The minute of a line: when it closed (us of the counter), its kind, and its second since
+    1900, or the rule that refused it. None where a line is of no minute."""
+    found = LINE.fullmatch(line)
+    return (int(found[1]), found[2], int(found[3])) if found else None

@@ -115,8 +115,8 @@ def silence(radio: RadioState, now: float) -> str:
     """For how long a radio's line has been silent, and since when; nothing where it isn't."""
     if not radio.silent_since:
         return ""
-    yet = "" if radio.pulse_at else " yet,"
-    return f"no pulse{yet} for {span(now - radio.silent_since)}, since {clock(radio.silent_since)} UTC"
+    yet, since = "" if radio.pulse_at else " yet,", radio.silent_since
+    return f"no pulse{yet} for {span(now - since)}, since {clock(since)} UTC"
 
 
 def summary(state: State, now: float) -> str:

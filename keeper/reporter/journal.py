@@ -3,6 +3,7 @@ seen live, and not here."""
 
 import contextlib
 import os
+import re
 
 from keeper.config import opened
 from keeper.ntp import EPOCH
@@ -11,6 +12,7 @@ from keeper.reporter.state import LeapFileState, ServerState, State
 MOST = 1 << 20  # of a journal that is longer this many last bytes are read
 LIST = 1 << 16  # of a leap second file this many first ones
 SECOND = 2**32
+EXPIRES = re.compile(rb"^#@\s+(\d{1,10})\b", re.MULTILINE)
 
 
 def read_journal(path: str, state: State, unix: float) -> None:
@@ -52,8 +54,6 @@ def expiry(path: str) -> float:
     """When a list of leap seconds expires by its own line `#@` (Unix s), 0.0 where it says nothing
     or can't be read."""
     with contextlib.suppress(OSError), opened(path) as file:
-        for line in (file.read(LIST) or b"").split(b"\n"):
-            words = line.split()
-            if words[:1] == [b"#@"] and words[1:] and words[1].isdigit() and len(words[1]) < 11:
-                return float(int(words[1]) - EPOCH)
+        if found := EXPIRES.search(file.read(LIST) or b""):
+            return float(int(found[1]) - EPOCH)
     return 0.0

@@ -1,5 +1,5 @@
-"""What a radio's log comes to, minute by minute: lines of `decode` and pulses go in, a RadioState
-comes out."""
+"""What a radio's log comes to, minute by minute: pulses and what `decode` says of them go in, a
+RadioState comes out."""
 
 import collections
 import statistics
@@ -8,16 +8,19 @@ from collections.abc import Sequence
 
 from keeper.ntp import EPOCH
 from keeper.receiver import Level, judge, marks_of
+from keeper.reporter.decoder import Child, begun, closed, said
 from keeper.reporter.state import QUARTER, QUARTERS, Quarter, RadioState
 
 WINDOW = 300_000_000  # the marks whose spread is shown are those of the last five minutes (us)
+KEPT = 900_000_000  # what a reporter that begins is told, and `decode` reads each time (us)
+MOST = 20_000  # pulses: of noise there are more
+DECODED = 20.0  # how often `decode` reads them, and what it has for that (s)
 WILD = 100_000  # a mark so far off the others is none of a whole second, as MSF's second parts (us)
 LEAST = 30  # with fewer marks no spread is shown
 SECOND = 1_000_000
 LOOKED_AT = 60  # the marks of this many seconds are looked at
 RECENT = 600.0  # minutes of so long are counted by kind and rule (s)
 HOUR = 3600
-KINDS = ("verdict", "lone", "differs", "refused")
 
 
 def spread_of(starts: Sequence[int]) -> float:
@@ -44,47 +47,64 @@ def _wrapped(phase: int) -> int:
 
 class Reception:
     """Keeps one radio's state. `minutes` are those of the last hour, with their kinds; `pulses`
-    those of the last five minutes: start, width, start as it is handed on (us of the counter).
-    Minutes up to `counted` (Unix s) are in the picture of the day already: a reporter that begins
-    is told the last ones again."""
+    those of the last quarter: start, width, start as it is handed on (us of the counter); `closed`
+    is when the last minute did. Minutes up to `counted` (Unix s) are in the picture of the day
+    already: a reporter that begins is told the last ones again."""
 
-    def __init__(self, radio: RadioState, counted: float = 0.0) -> None:
-        self.radio, self.counted = radio, counted
+    def __init__(self, radio: RadioState, counted: float = 0.0, program: str = "") -> None:
+        self.radio, self.counted, self.program = radio, counted, program
         self.minutes: collections.deque[tuple[float, str]] = collections.deque()
-        self.pulses: collections.deque[tuple[int, int, int]] = collections.deque()
+        self.pulses: collections.deque[tuple[int, int, int]] = collections.deque(maxlen=MOST)
+        self.closed = 0
+        self.child: Child | None = None
+        self.due = 0.0
 
     def pulse(self, start: int, width: int, given: int) -> None:
         """A pulse. One that begins before the last one begins a new counter."""
         if self.pulses and start <= self.pulses[-1][0]:
             self.pulses.clear()
+            self.closed = 0
         self.pulses.append((start, width, given))
-        while self.pulses[0][0] < start - WINDOW:
+        while self.pulses[0][0] < start - KEPT:
             self.pulses.popleft()
 
+    def decode(self, now: float) -> None:
+        """Has `decode` read the pulses from time to time, and takes the minutes that have closed
+        since (`now` in Unix s): it judges each one by itself and the one before it. Call it once a
+        second or more often. Raises OSError."""
+        is_due = time.monotonic() >= self.due
+        if self.child and (is_due or self.child.poll() is not None):
+            self.child.kill()
+            for line in said(self.child):
+                if (found := closed(line)) and found[0] > self.closed:
+                    self.closed = found[0]
+                    self.take(line, now)
+            self.child = None
+        elif is_due and self.pulses:
+            self.due = time.monotonic() + DECODED
+            given = ((given, width) for _, width, given in self.pulses)
+            self.child = begun(self.program, self.radio.plan, given)
+
     def take(self, line: str, now: float, unix: float | None = None) -> None:
-        """A line of `decode`, which came now (Unix s). `unix` is what is to be added to the
-        counter's seconds to have Unix seconds, by the host's clock as it stands. A line that is
-        none of a minute is passed over."""
-        words = line.split()
-        numbers = [words[1], *words[3:]] if len(words) > 3 else [""]
-        are_numbers = all(one.isascii() and one.isdigit() and len(one) < 20 for one in numbers)
-        if not are_numbers or words[2] not in KINDS:
+        """A line of `decode` (`now` in Unix s). `unix` is what is to be added to the counter's
+        seconds to have Unix seconds, by the host's clock as it stands. A line that is none of a
+        minute is passed over."""
+        if (found := closed(line)) is None:
             return
-        shift = time.time() - time.monotonic() if unix is None else unix
-        close = int(words[1]) / 1e6 + shift
+        counter, kind, number = found
+        close = counter / 1e6 + (time.time() - time.monotonic() if unix is None else unix)
         # What a source says of the time before it was read comes at once, and belongs to when it
         # was.
-        kind, at = words[2], min(now, close)
+        at, radio = min(now, close), self.radio
         quarter = self._quarter(at) if at > self.counted else Quarter()
         if kind == "refused":
-            quarter.refused[words[3]] = quarter.refused.get(words[3], 0) + 1
-            kind = f"refused {words[3]}"
+            quarter.refused[str(number)] = quarter.refused.get(str(number), 0) + 1
+            kind = f"refused {number}"
         else:
             setattr(quarter, kind, getattr(quarter, kind) + 1)
         self.minutes.append((at, kind))
         if kind == "verdict":
-            radio = self.radio
-            radio.minute, radio.minute_at = float(int(words[3]) - EPOCH), at
+            radio.minute, radio.minute_at = float(number - EPOCH), at
             radio.offset = round(radio.minute - close + radio.delay, 6)
 
     def move(self, step: float) -> None:
@@ -98,14 +118,11 @@ class Reception:
     def _quarter(self, at: float) -> Quarter:
         """The quarter of an hour of a moment."""
         quarters, begun = self.radio.reception, at // QUARTER * QUARTER
-        for one in reversed(quarters):
-            if one.at == begun:
-                return one
-        found = Quarter(begun)
-        quarters.append(found)
-        quarters.sort(key=lambda one: one.at)
-        del quarters[:-QUARTERS]
-        return found
+        if not any(one.at == begun for one in quarters):
+            quarters.append(Quarter(begun))
+            quarters.sort(key=lambda one: one.at)
+            del quarters[:-QUARTERS]
+        return next((one for one in quarters if one.at == begun), Quarter(begun))
 
     def renew(self, now: float) -> None:
         """Puts in what only time changes; call it before the state is written."""
@@ -114,10 +131,11 @@ class Reception:
             self.minutes.popleft()
         kinds = [kind for _, kind in self.minutes]
         radio.minutes_hour, radio.verdicts_hour = len(kinds), kinds.count("verdict")
-        recent = [kind for at, kind in self.minutes if now - RECENT < at <= now]
-        radio.recent = dict(collections.Counter(recent).most_common())
-        radio.spread = spread_of([start for start, _, _ in self.pulses])
-        radio.spread_given = spread_of([given for _, _, given in self.pulses])
+        kinds = [kind for at, kind in self.minutes if now - RECENT < at <= now]
+        radio.recent = dict(collections.Counter(kinds).most_common())
+        recent = [one for one in self.pulses if one[0] >= self.pulses[-1][0] - WINDOW]
+        radio.spread = spread_of([start for start, _, _ in recent])
+        radio.spread_given = spread_of([given for _, _, given in recent])
         self._look(now)
         oldest = now - QUARTER * QUARTERS
         # What is ahead of now was written before the host's clock was put back.

@@ -30,19 +30,21 @@ DRIFT = 15e-6  # how fast the root dispersion grows while no source is received 
 SILENT = 15.0  # a link that hasn't answered for so long is silent (s)
 
 
-def has(default: Any, about: str) -> Any:
-    """A field, its default (or what makes it), and what it says."""
+def has(default: Any, about: str, metric: str = "", given: str = "") -> Any:
+    """A field, its default (or what makes it), what it says, and the metric that has it. Where the
+    field of the name `given` is 0 there is no metric."""
+    metadata = {"about": about, "metric": metric, "given": given}
     if callable(default):
-        return dataclasses.field(default_factory=default, metadata={"about": about})
-    return dataclasses.field(default=default, metadata={"about": about})
+        return dataclasses.field(default_factory=default, metadata=metadata)
+    return dataclasses.field(default=default, metadata=metadata)
 
 
 @dataclass
 class RunState:
     """The run of the program that serves now."""
 
-    number: int = has(0, "runs since the keeper began")
-    since: float = has(0.0, "when it was started")
+    number: int = has(0, "runs since the keeper began", "runs_total")
+    since: float = has(0.0, "when it was started", "run_start_time_seconds")
     cause: str = has("", "why it serves")
     pid: int = has(0, "its process, or 0")
     last_status: str = has("", "the last journal's status")
@@ -55,17 +57,17 @@ class LinkState:
 
     port: int = has(0, "its UDP port")
     asked_at: float = has(0.0, "last question")
-    answered_at: float = has(0.0, "last answer")
-    leap: int = has(3, "of that answer")
-    stratum: int = has(0, "0 without time")
+    answered_at: float = has(0.0, "last answer", "link_last_answer_timestamp_seconds")
+    leap: int = has(3, "3 says not synchronised", "link_leap_indicator")
+    stratum: int = has(0, "0 without time", "link_stratum")
     reference_id: str = has("INIT", "letters or an address")
-    root_delay: float = has(0.0, "of that answer")
-    root_dispersion: float = has(16.0, "of that answer")
-    reference_time: float = has(0.0, "its source's last moment")
-    until: float = has(0.0, "when its time ends")
-    requests: int = has(0, "clients' in ended runs")
+    root_delay: float = has(0.0, "of its last answer", "link_root_delay_seconds")
+    root_dispersion: float = has(16.0, "of its last answer", "link_root_dispersion_seconds")
+    reference_time: float = has(0.0, "its source's last", "link_reference_timestamp_seconds")
+    until: float = has(0.0, "when its time ends", "link_time_end_timestamp_seconds")
+    requests: int = has(0, "clients' in ended runs", "link_requests_total")
     requests_per_second: float = has(0.0, "in the last run")
-    offset: float = has(0.0, "its time less the host's clock")
+    offset: float = has(0.0, "its time less the host's clock", "link_offset_seconds", "until")
 
     def has_time(self, now: float) -> bool:
         """Whether clients that ask now (Unix s) get the time."""
@@ -95,25 +97,30 @@ class RadioState:
     plan: str = has("", "`dcf`, `msf` or `wwvb`")
     name: str = has("", "its name")
     source: str = has("starting", "`starting`, `running`, `stalled` or `waiting`")
-    restarts: int = has(0, "starts of its source again")
-    pulses: int = has(0, "pulses taken")
-    bad_lines: int = has(0, "lines left out")
+    restarts: int = has(0, "starts of its source again", "radio_source_restarts_total")
+    pulses: int = has(0, "pulses taken", "radio_pulses_total")
+    bad_lines: int = has(0, "lines left out", "radio_bad_lines_total")
     last_bad: str = has("", "the last of them")
-    pulse_at: float = has(0.0, "the last pulse")
-    silent_since: float = has(0.0, "since when none came, once that is `stall`, else 0")
+    pulse_at: float = has(0.0, "the last pulse", "radio_last_pulse_timestamp_seconds")
+    silent_since: float = has(0.0, "of a silent one, else 0",
+                              "radio_silent_since_timestamp_seconds")
     stall: float = has(60.0, "the file's")
-    rate: float = has(0.0, "pulses a second in the last minute")
-    width: float = has(0.0, "their median width")
+    rate: float = has(0.0, "pulses a second, last minute", "radio_pulse_rate")
+    width: float = has(0.0, "their median", "radio_pulse_width_seconds", "width")
     fault: str = has("", "what is wrong with them")
-    recent: dict[str, int] = has(dict, "minutes of the last ten by kind and rule")
-    verdicts_hour: int = has(0, "verdicts of the last hour")
-    minutes_hour: int = has(0, "all its minutes")
+    recent: dict[str, int] = has(dict, "minutes of the last ten by kind and rule",
+                                 "radio_recent_frames")
+    verdicts_hour: int = has(0, "of the last hour", "radio_hour_verdicts")
+    minutes_hour: int = has(0, "of the last hour", "radio_hour_frames")
     minute: float = has(0.0, "the last verdict's second")
-    minute_at: float = has(0.0, "when that came")
-    offset: float = has(0.0, "its time less the host's clock")
-    spread: float = has(0.0, "of marks' starts, standard deviation")
-    spread_given: float = has(0.0, "the same, steadied")
-    steady: bool = has(False, "whether they are steadied")
+    minute_at: float = has(0.0, "the last verdict", "radio_last_verdict_timestamp_seconds")
+    offset: float = has(0.0, "that verdict less the host's clock", "radio_offset_seconds",
+                        "minute_at")
+    spread: float = has(0.0, "of marks' starts, standard deviation", "radio_mark_spread_seconds",
+                        "spread")
+    spread_given: float = has(0.0, "the same, steadied", "radio_steadied_mark_spread_seconds",
+                              "steady")
+    steady: bool = has(False, "whether steadied")
     since: float = has(0.0, "when its reading began")
     delay: float = has(0.0, "the station's")
     origin: str = has("", "a digest of its source")
@@ -134,11 +141,11 @@ class ServerState:
     number: int = has(0, "its feed's number")
     address: str = has("", "where it is asked")
     port: int = has(0, "its UDP port")
-    samples: int = has(0, "samples in the last journal")
+    samples: int = has(0, "in the last journal", "server_journal_samples")
     declined: dict[str, int] = has(dict, "refused there, by number")
-    sample_at: float = has(0.0, "the last sample")
-    offset: float = has(0.0, "its time less the host's clock")
-    delay: float = has(0.0, "there and back")
+    sample_at: float = has(0.0, "the last sample", "server_last_sample_timestamp_seconds")
+    offset: float = has(0.0, "its time less the host's clock", "server_offset_seconds", "sample_at")
+    delay: float = has(0.0, "there and back", "server_delay_seconds", "sample_at")
     stratum: int = has(0, "of that sample")
 
 
@@ -150,7 +157,7 @@ class LeapFileState:
     path: str = has("", "its name")
     notices: int = has(0, "its rows in the last journal")
     last: float = has(0.0, "the last leap second's end")
-    expires: float = has(0.0, "when it expires")
+    expires: float = has(0.0, "when it expires", "leap_file_expiry_timestamp_seconds")
 
 
 @dataclass
@@ -160,6 +167,7 @@ class Alarm:
     event: str = has("", "[its word](#alarms)")
     at: float = has(0.0, "when")
     text: str = has("", "one sentence")
+    radio: int | None = has(None, "its radio's number, or null")
 
 
 @dataclass
@@ -168,11 +176,11 @@ class State:
     keeper runs."""
 
     version: int = has(VERSION, "of this form")
-    written: float = has(0.0, "when it was written")
-    keeper_since: float = has(0.0, "when the keeper began")
+    written: float = has(0.0, "when this was written", "state_timestamp_seconds")
+    keeper_since: float = has(0.0, "when the keeper began", "keeper_start_time_seconds")
     keeper_pid: int = has(0, "its process, 0 once stopped")
     station: str = has("", "the station file's name")
-    bound: float = has(1.0, "the station's")
+    bound: float = has(1.0, "the station's", "bound_seconds")
     cycle: float = has(3600.0, "of a run")
     run: RunState = has(RunState, "the run that serves")
     links: list[LinkState] = has(list, "where clients ask")

@@ -6,7 +6,6 @@ import time
 from collections.abc import Mapping
 from typing import Any
 
-from keeper.reporter.decoder import Decoder
 from keeper.reporter.journal import expiry, read_journal
 from keeper.reporter.reception import Reception
 from keeper.reporter.state import (DRIFT, LeapFileState, LinkState, RadioState, RunState,
@@ -16,24 +15,6 @@ Facts = Mapping[str, Any]  # service.json, as the supervisor writes it
 LATE = 600.0  # events that are older than their facts by this raise no alarm (s)
 
 
-class Radio:
-    """A radio: its reception, and a `decode` beside it."""
-
-    def __init__(self, state: RadioState, program: str, counted: float) -> None:
-        self.reception = Reception(state, counted)
-        self.decoder = Decoder(program, state.plan, self._take)
-
-    def _take(self, line: str) -> None:
-        self.reception.take(line, time.time())
-
-    def heard(self, pulses: list[list[int]]) -> None:
-        """Pulses: starts, widths, and starts as they are handed on (us)."""
-        for start, width, given in pulses:
-            self.reception.pulse(start, width, given)
-        lines = b"".join(b"%d %d\n" % (given, width) for _, width, given in pulses)
-        self.decoder.give(lines, time.monotonic())
-
-
 class Station:
     """`state` is what is shown: at first that of a reporter before this one. `take` takes facts,
     `heard` pulses."""
@@ -41,7 +22,7 @@ class Station:
     def __init__(self, before: State | None) -> None:
         self.state = before or State()
         self.state.leap_file = None  # the file may be another one by now
-        self.radios: list[Radio] = []
+        self.radios: list[Reception] = []
         self.sources: list[tuple[str, int, str, str]] = []  # what `radios` are of
         self.journal = ""  # the last that was read
         self.events = 0  # the last that was seen
@@ -66,7 +47,6 @@ class Station:
         state, said = self.state, facts["radios"]
         now = [(facts["program"], one["number"], one["plan"], one["origin"]) for one in said]
         if now != self.sources:
-            self.close()
             old = {(one.number, one.plan): one for one in state.radios}
             known = [old.get((one["number"], one["plan"]), RadioState()) for one in said]
             state.radios = [RadioState(since=facts["at"], plan=one["plan"], minute=was.minute,
@@ -74,7 +54,7 @@ class Station:
                                        reception=was.reception)
                             for one, was in zip(said, known)]
             counted = min(state.written, facts["at"])  # the clock may have been ahead then
-            self.radios = [Radio(one, facts["program"], counted) for one in state.radios]
+            self.radios = [Reception(one, counted, facts["program"]) for one in state.radios]
             self.sources = now
         for radio, one in zip(state.radios, said):
             last = one["pulse_at"] or radio.pulse_at  # of the keeper before where this has none
@@ -108,20 +88,15 @@ class Station:
             read_journal(path, state, time.time() - time.monotonic())
 
     def heard(self, number: int, pulses: list[list[int]]) -> None:
-        """Pulses of a radio."""
-        if 0 <= number < len(self.radios):
-            self.radios[number].heard(pulses)
-
-    def turn(self) -> None:
-        """Reads what `decode` says. Call it once a second or more often."""
-        for radio in self.radios:
-            radio.decoder.turn()
+        """Pulses of a radio: starts, widths, and starts as they are handed on (us)."""
+        for start, width, given in pulses if 0 <= number < len(self.radios) else ():
+            self.radios[number].pulse(start, width, given)
 
     def renew(self, now: float) -> None:
         """Puts in what only time changes. What lies ahead was noted while the host's clock was
         wrong."""
         for radio in self.radios:
-            radio.reception.renew(now)
+            radio.renew(now)
         for alarm in self.state.alarms:
             alarm.at = min(alarm.at, now)
         for server in self.state.servers:
@@ -134,13 +109,9 @@ class Station:
         for alarm in self.state.alarms:
             alarm.at += step
         for radio in self.radios:
-            radio.reception.move(step)
+            radio.move(step)
         for server in self.state.servers:
             server.sample_at += step if server.sample_at else 0.0
-
-    def close(self) -> None:
-        for radio in self.radios:
-            radio.decoder.close()
 
 
 def _link(said: Facts, bound: float) -> LinkState:

@@ -2,10 +2,10 @@
 days and bytes."""
 
 import contextlib
-import datetime
 import gzip
 import os
 import re
+from datetime import date, timedelta
 
 from keeper.supervisor import disk
 from keeper.supervisor.host import Host
@@ -15,49 +15,42 @@ from keeper.supervisor.logs import MOST as LOG
 DATED = re.compile(r"(?:\d+-[a-z]+\.)?(\d{8})[T.][\w-]+\.(?:log|log\.gz|journal|own)(?:\.part)?")
 
 
-def later(day: str, days: int) -> str:
-    """The day that is this many days after another one, both as 20261129."""
-    parsed = datetime.datetime.strptime(day, "%Y%m%d") + datetime.timedelta(days=days)
-    return parsed.strftime("%Y%m%d")
-
-
-def is_day(text: str) -> bool:
-    """Whether it names a day; a file of ours does."""
-    try:
-        return bool(later(text, 0))
-    except ValueError:
-        return False
+def day_in(name: str) -> date | None:
+    """The day in the name of a file of ours; None of another one."""
+    match = DATED.fullmatch(name)
+    with contextlib.suppress(ValueError):
+        return date.fromisoformat(match[1]) if match else None
+    return None
 
 
 def compress(host: Host, path: str) -> str:
     """Puts PATH.gz in the place of a log, without what a power cut left at its end, and gives its
-    name. Beside one that is there already it has a name of its own, as where the host's clock was
-    set back over midnight. No link is followed. Raises OSError."""
-    free, number = path + ".gz", 1
+    name. One that is there already goes on, as where the host's clock was set back over midnight.
+    No link is followed. Raises OSError."""
+    there, before = path + ".gz", b""
     if whole := disk.whole(disk.read_all(host, path, LOG)):
         packed = gzip.compress(whole, 6, mtime=0)
-        while os.path.lexists(free) and disk.read_all(host, free, LOG) != packed:
-            number += 1
-            free = f"{path.removesuffix('.log')}_{number}.log.gz"
-        disk.put(host, free, packed, 0o640)
+        if os.path.lexists(there):
+            before = disk.read_all(host, there, LOG)
+        if not before.endswith(packed):  # else the log was left by one that was killed
+            disk.put(host, there, before + packed, 0o640)
     host.remove(path)
-    return free
+    return there
 
 
-def oldest_kept(there: list[str], today: str, days: int) -> str:
+def oldest_kept(there: list[date], today: date, days: int) -> date:
     """The first day that is kept: this many days before today. A host's clock that is set far ahead
     by mistake must not make all of them too old at once, so today is at most the day after the
     newest of the other days."""
     newest = max((day for day in there if day < today), default=today)
-    return later(min(today, later(newest, 1)), -days)
+    return min(today, newest + timedelta(1)) - timedelta(days)
 
 
-def tidy(host: Host, folder: str, today: str, days: int, most: int, recent: set[str]) -> int:
+def tidy(host: Host, folder: str, today: date, days: int, most: int, recent: set[date]) -> int:
     """Compresses the logs of a folder but those of `recent` days, which may still be written, and
     removes what is half written, too old, or too much (bytes), the oldest first. How many bytes are
     left. Raises OSError, once it has done what it can."""
-    found = sorted((match[1], one) for one in os.listdir(folder)
-                   if (match := DATED.fullmatch(one)) and is_day(match[1]))
+    found = sorted((day, one) for one in os.listdir(folder) if (day := day_in(one)))
     oldest = oldest_kept([day for day, _ in found], today, days)
     sizes, written, refused = dict[str, int](), set[str](), list[OSError]()
     for day, name in found:

@@ -17,7 +17,7 @@ def alarms() -> list[str]:
 
 def families() -> list[str]:
     """A row for each family of metrics."""
-    return [f"| `{name}` | {about} |" for name, about, _ in metrics.FAMILIES]
+    return [f"| `{name}` | {about} |" for one in metrics.FAMILIES.values() for name, about, _ in one]
 
 
 def fields() -> list[str]:

@@ -99,7 +99,7 @@ class Changes(Quiet):
     def test_a_dead_line_that_another_reporter_has_named(self):
         self.alarms.settings = config.Alarms(unheard=3600.0)
         self.state.radios[0].silent_since, self.state.radios[0].minute_at = 1150.0, 1140.0
-        raised = Alarm("radio-unheard", 1750.0, "radio 0 (roof) has had no verdict for 610 s: x")
+        raised = Alarm("radio-unheard", 1750.0, "x", 0)
         self.alarms.recall([raised], 1000.0, 1)
         self.alarms.has_time = False
         self.assertEqual(self.at(1800), [])

@@ -119,13 +119,13 @@ class Whole(unittest.TestCase):
 
     def test_minutes_of_before_a_server_was_asked_are_not_compared_with_it(self):
         now = time.time()
-        minutes = [Minute(now + one, 0.03, 0.03, 0.1) for one in (-60.0, 0.0, 60.0)]
+        minutes = [Minute(now + one, 0.03, 0.03) for one in (-60.0, 0.0, 60.0)]
         server = mock.Mock()
         server.offset_at.side_effect = lambda at: None if at > now + 59 else 0.5
-        with mock.patch.multiple(calibrate, heard=lambda *_: [], decoded=lambda *_: [],
+        with mock.patch.multiple(calibrate, heard=lambda *_: [], begun=mock.Mock(), said=lambda _: [],
                                  minutes_of=lambda *_: minutes), mock.patch("time.time", lambda: now):
             self.assertEqual(calibrate.listen(mock.MagicMock(), 0, server, 1.0),
-                             [Minute(now, 0.53, 0.53, 0.1)])
+                             [Minute(now, 0.53, 0.53)])
             self.assertEqual(calibrate.listen(mock.MagicMock(), 0, None, 1.0), minutes)
 
     def test_a_server_that_has_no_address(self):

@@ -100,7 +100,7 @@ class Whole(Folder):
         status, said = self.run_check("--seconds", "3", command="echo noise; exit 3")
         self.assertEqual(status, 1)
         self.assertIn("BAD   radio 0 (dcf): its source ended: its command ended with 3\n", said)
-        self.assertIn("1 lines were no start and width; the first: 'noise': it isn't a start and a "
+        self.assertIn("1 lines were no start and width; the last: 'noise': it isn't a start and a "
                       "width\n", said)
 
     def test_lines_that_the_keeper_leaves_out(self) -> None:
@@ -108,7 +108,7 @@ class Whole(Folder):
         status, said = self.run_check("--seconds", "3", command=self.marks("100000\\r"))
         self.assertEqual(status, 1)
         self.assertRegex(said, r"BAD   radio 0 \(dcf\): 10 of 10 lines are bad, and the keeper "
-                               r"leaves them out; the first: '\d+ 100000\\r': a carriage return")
+                               r"leaves them out; the last: '\d+ 100000\\r': it isn't a start")
 
     def test_a_keeper_that_runs_reads_the_receivers(self) -> None:
         with mock.patch.object(lock, "is_taken", return_value=True):

@@ -134,8 +134,8 @@ class Config(Folder):
                     with self.assertRaises(Fault) as caught:
                         given()
                     self.assertEqual(caught.exception.status, REFUSED)
-                    self.assertRegex(str(caught.exception), "odd.toml: it (is no TOML: |isn't "
-                                                            "UTF-8|has more than 65536 bytes)")
+                    self.assertRegex(str(caught.exception),
+                                     "odd.toml: it (is no TOML: |has more than 65536 bytes)")
 
     def test_a_byte_order_mark_is_passed_over(self):
         (self.folder / "station.toml").write_bytes(b"\xef\xbb\xbf" + STATION.encode())

@@ -71,9 +71,9 @@ class Ports(unittest.TestCase):
         self.assertEqual(look_at_port(port), (Level.WELL, f"port {port} is free"))
 
     def test_of_a_station(self) -> None:
-        self.assertEqual(host_checks.look_at_ports(mock.Mock(links=[]), False),
+        self.assertEqual(list(host_checks.look_at_ports(mock.Mock(links=[]), False)),
                          [(Level.NOTE, "the station has no [[link]]: nobody is answered")])
-        self.assertEqual(host_checks.look_at_ports(mock.Mock(links=[5]), True),
+        self.assertEqual(list(host_checks.look_at_ports(mock.Mock(links=[5]), True)),
                          [(Level.WELL, "port 5 is served by the keeper that runs")])
 
 
@@ -113,22 +113,20 @@ class Sources(Folder):
                 due = f"there is no program {missing}" if missing else "the programs of its command"
                 self.assertEqual(level, Level.BAD if missing else Level.WELL)
                 self.assertTrue(said.startswith(f"radio 0 (roof): {due}"), said)
-        with mock.patch.object(host_checks.shutil, "which", return_value=None):
+        with mock.patch.object(host_checks, "_is_program", return_value=False):
             self.assertEqual(self.look("command", "gpiomon gpiochip0 17"), (
                 Level.BAD,
                 "radio 0 (roof): there is no program gpiomon; `apt install gpiod` has it"))
 
-    def test_steadying(self) -> None:
-        twice = "gpiomon | /x/steady.py"
-        for command, level, said in (
-            ("gpiomon", Level.WELL, "its marks will be steadied, two minutes after they"),
-            (twice, Level.BAD, "its command steadies it too: take `steady.py` out of the"),
-        ):
-            steadied = radio("command", command, True)
-            ((found, text),) = host_checks.look_at_steady(steadied, 0)
-            self.assertEqual(found, level)
-            self.assertTrue(text.startswith(f"radio 0 (roof): {said}"), text)
-        self.assertEqual(host_checks.look_at_steady(radio("command", twice), 0), [])
+    def test_a_radio_is_steadied_once(self) -> None:
+        twice = (Level.BAD, "radio 0 (roof): its command steadies it too: take `steady.py` out of "
+                 "the command, so that the log has its pulses as they came")
+        settings = mock.Mock(folder="/tmp")
+        settings.alarms.command = ""
+        for command, steady, due in (("cat | /x/steady.py", True, True), ("cat", True, False),
+                                     ("cat | /x/steady.py", False, False)):
+            settings.radios = [radio("command", command, steady)]
+            self.assertEqual(twice in list(host_checks.look(settings)), due)
 
     def test_a_command_of_alarms(self) -> None:
         settings = mock.Mock(radios=[], folder="/tmp")
@@ -138,15 +136,15 @@ class Sources(Folder):
             ("echo x | cat", (Level.WELL, "alarms.command: the programs of its command are there")),
         ):
             settings.alarms.command = command
-            self.assertIn(finding, host_checks.look(settings))
+            self.assertIn(finding, list(host_checks.look(settings)))
 
 
 class Hosts(Folder):
     def test_clocks(self) -> None:
         unknown = (Level.NOTE, "the kernel doesn't say which clock source it has")
         self.assertEqual(look_at_clock(self.folder), unknown)
-        well = r"the clock source is {}; a reading takes \d+\.\d\d us"
-        note = (r"the clock source is {}, which is slow or coarse \(\d+\.\d\d us a reading\); "
+        well = r"the clock source is {}"
+        note = (r"the clock source is {}, which is slow or coarse; "
                 r"`cat \S+/available_clocksource` lists others")
         for name, level, said in (("tsc", Level.WELL, well), ("arch_sys_counter", Level.WELL, well),
                                   ("hpet", Level.NOTE, note), ("jiffies", Level.NOTE, note)):
@@ -164,10 +162,9 @@ class Hosts(Folder):
         self.assertEqual(look_at_folder(f"{file}/b"),
                          (Level.BAD, f"{file}/b can't be a folder: {file} is none"))
         need = "a radio's logs and journals of a month take about 20 MB"
-        none = "logs, journals and the state can't be written"
         for free, level, said in (((1 << 28) - 1, Level.NOTE, f"255 MB left; {need}"),
                                   (1 << 20, Level.NOTE, f"1 MB left; {need}"),
-                                  ((1 << 20) - 1, Level.BAD, f"1023 KB left: {none}")):
+                                  ((1 << 20) - 1, Level.BAD, f"0 MB left; {need}")):
             usage = mock.Mock(free=free)
             with mock.patch.object(host_checks.shutil, "disk_usage", return_value=usage):
                 self.assertEqual(look_at_folder(self.folder), (level, f"{self.folder} has {said}"))

@@ -1,7 +1,6 @@
 """`install` below a folder: what it says, what it does, and that it takes it away again."""
 
 import contextlib
-import errno
 import io
 import os
 import pathlib
@@ -11,7 +10,7 @@ import tempfile
 import unittest
 from unittest import mock
 
-from keeper import VERSION, install, status, whole_files
+from keeper import VERSION, chosen_file, install, status, whole_files
 from keeper.arguments import parse
 from keeper.errors import Fault
 
@@ -68,7 +67,7 @@ class Install(unittest.TestCase):
         with mock.patch("keeper.status.FILES", ("/nosuch", settings)):
             self.assertEqual(status.folders_of(None), [os.path.join(os.path.dirname(settings), "elsewhere")] * 2)
             with mock.patch("keeper.status.os.access", lambda *_: False):
-                self.assertEqual(status.folders_of(None), ["/run/radio_ntpd", install.HOME])
+                self.assertEqual(status.folders_of(None), ["/run/radio_ntpd", chosen_file.SERVED])
 
     def test_what_is_installed_runs(self):
         self.install("--do")
@@ -209,7 +208,7 @@ class Install(unittest.TestCase):
             self.assertEqual((done.returncode, [line for line in done.stderr.splitlines() if b"radio_ntpd" not in line]), (0, []))
         with open(f"{etc}/passwd", encoding="ascii") as file:
             user = file.read().splitlines()[-1].split(":")
-        self.assertEqual((user[0], user[5], os.path.basename(user[6])), ("radio_ntpd", install.HOME, "nologin"))
+        self.assertEqual((user[0], user[5], os.path.basename(user[6])), ("radio_ntpd", chosen_file.SERVED, "nologin"))
         with open(f"{etc}/group", encoding="ascii") as file:
             self.assertEqual({line.split(":")[0]: line.split(":")[3].strip() for line in file}, {"root": "", "dialout": "radio_ntpd", "radio_ntpd": ""})
         for name in ("keeper.toml", "station.toml"):
@@ -236,56 +235,25 @@ class Install(unittest.TestCase):
         whole_files.put_folder(str(path), old)
         return path, new
 
-    def texts(self, path):
-        return sorted(one.read_text() for one in path.rglob("*") if one.is_file())
-
-    def test_a_new_folder_has_the_place_of_the_old_one_at_once(self):
-        """At each moment at which it could be ended, the installed folder has all files of the old version or of the new one."""
-        for swaps in (True, False):
-            with self.subTest(swaps=swaps):
-                path, new = self.trees()
-                self.see_each_moment(path, lambda: whole_files.put_folder(str(path), new), swaps)
-                self.assertEqual(self.texts(path), ["new", "new"])
-                self.assertTrue(whole_files.has_tree(str(path), new))
-                self.assertEqual(os.listdir(path.parent), ["path"])
-
-    def see_each_moment(self, path, act, swaps):
-        """Looks before each call that changes a folder. Without a swap the folder is away between two renames."""
+    def test_at_each_moment_a_folder_has_each_file_of_the_old_version_or_of_the_new_one(self):
+        path, new = self.trees()
+        (path / "left").write_text("old")
         seen = []
 
         def looking(call):
             def looks(*words, **more):
-                seen.append(self.texts(path) if path.exists() else [])
+                seen.append({name: (path / name).read_text() for name in new})
                 return call(*words, **more)
             return looks
 
-        library = mock.Mock(renameat2=mock.Mock(return_value=-1))
         with contextlib.ExitStack() as stack:
-            for name in ("os.rename", "os.replace", "os.makedirs", "os.chmod", "tempfile.TemporaryDirectory"):
-                call = getattr(tempfile if "tempfile" in name else os, name.partition(".")[2])
-                stack.enter_context(mock.patch(f"keeper.whole_files.{name}", looking(call)))
-            stack.enter_context(mock.patch("shutil.rmtree", looking(shutil.rmtree)))
-            if not swaps:
-                stack.enter_context(mock.patch("keeper.whole_files.ctypes.CDLL", lambda *_, **__: library))
-                stack.enter_context(mock.patch("keeper.whole_files.ctypes.get_errno", lambda: errno.EINVAL))
-            act()
-        self.assertGreater(len(seen), 8)
-        self.assertEqual(sum(one == [] for one in seen), 0 if swaps else 1)
-        self.assertTrue(all(one in (["old"] * 2, ["new"] * 2, []) for one in seen), seen)
-
-    def test_a_folder_that_cannot_be_renamed_leaves_the_old_one(self):
-        path, new = self.trees()
-        rename = os.rename
-        for refused in (errno.EACCES, errno.EINVAL):
-            # The first puts the old one aside, the second fails, the third puts it back.
-            renames = mock.Mock(side_effect=[rename, OSError(errno.EIO, "Input/output error"), rename])
-            library = mock.Mock(renameat2=mock.Mock(return_value=-1))
-            with mock.patch("keeper.whole_files.ctypes.CDLL", lambda *_, **__: library), mock.patch("keeper.whole_files.ctypes.get_errno", lambda: refused):
-                with mock.patch("keeper.whole_files.os.rename", lambda *names: renames()(*names)), self.assertRaises(OSError):
-                    whole_files.put_folder(str(path), new)
-            self.assertEqual(self.texts(path), ["old", "old"])
-            self.assertEqual(os.listdir(path.parent), ["path"])
-            self.assertEqual(renames.call_count, 3 if refused == errno.EINVAL else 0)
+            for name in ("replace", "unlink", "chmod"):
+                stack.enter_context(mock.patch(f"keeper.whole_files.os.{name}", looking(getattr(os, name))))
+            whole_files.put_folder(str(path), new)
+        self.assertEqual([list(one.values()) for one in seen[1::2][:2]], [["old"] * 2, ["new", "old"]])
+        self.assertEqual(list(seen[-1].values()), ["new", "new"])
+        self.assertTrue(whole_files.has_tree(str(path), new))
+        self.assertEqual(os.listdir(path.parent), ["path"])
 
     @unittest.skipUnless(shutil.which("dh_python3") and shutil.which("dh"), "no debhelper, or no dh-python")
     def test_a_package_has_examples_and_no_settings(self):

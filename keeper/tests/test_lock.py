@@ -5,8 +5,6 @@ import fcntl
 import os
 import stat
 import tempfile
-import threading
-import time
 import unittest
 from unittest import mock
 
@@ -39,43 +37,28 @@ class Locks(unittest.TestCase):
         self.addCleanup(os.close, lock.take(self.host, self.folder))
         self.assertEqual(stat.S_IMODE(os.stat(os.path.join(self.folder, lock.NAME)).st_mode), 0o600)
 
-    def test_one_who_may_not_open_it_looks_at_the_hosts_list(self):
-        path = os.path.join(self.folder, lock.NAME)
-        self.assertFalse(lock._is_listed(path))
-        taken = lock.take(self.host, self.folder)
-        self.assertTrue(lock._is_listed(path))
-        os.close(taken)
-        self.assertFalse(lock._is_listed(path))
-
-    def test_another_files_lock_in_that_list_is_none(self):
+    def test_another_files_lock_in_the_hosts_list_is_none(self):
         """Its inode may end with the digits of ours."""
-        path = os.path.join(self.folder, lock.NAME)
         os.close(lock.take(self.host, self.folder))
-        inode = os.stat(path).st_ino
+        inode = os.stat(os.path.join(self.folder, lock.NAME)).st_ino
         for words, due in ((f"FLOCK ADVISORY WRITE 7 fe:01:{inode} 0 EOF", True),
                            (f"FLOCK ADVISORY WRITE 7 fe:01:1{inode} 0 EOF", False),
                            (f"POSIX ADVISORY WRITE 7 fe:01:{inode} 0 EOF", False)):
             listed = mock.mock_open(read_data=f"1: {words}\n2: -> short\n")
             with mock.patch("builtins.open", listed):
-                self.assertEqual(lock._is_listed(path), due, words)
+                self.assertEqual(lock.is_taken(self.folder), due, words)
 
-    def test_two_who_look_at_it_at_once_see_no_keeper(self):
+    def test_a_lock_that_others_may_share_is_no_keepers(self):
         os.close(lock.take(self.host, self.folder))
         looks = os.open(os.path.join(self.folder, lock.NAME), os.O_RDONLY)
         self.addCleanup(os.close, looks)
         fcntl.flock(looks, fcntl.LOCK_SH)
         self.assertFalse(lock.is_taken(self.folder))
 
-    def test_one_who_looks_at_it_keeps_none_from_starting(self):
+    def test_one_who_looks_at_it_opens_nothing(self):
         os.close(lock.take(self.host, self.folder))
-        looks = os.open(os.path.join(self.folder, lock.NAME), os.O_RDONLY)
-        fcntl.flock(looks, fcntl.LOCK_SH)
-        later = threading.Timer(0.3, os.close, [looks])
-        later.start()
-        self.addCleanup(later.join)
-        began = time.monotonic()
-        self.addCleanup(os.close, lock.take(self.host, self.folder))
-        self.assertGreater(time.monotonic() - began, 0.2)
+        with mock.patch("os.open", side_effect=AssertionError):
+            self.assertFalse(lock.is_taken(self.folder))
 
     def test_a_link_in_its_place_is_not_followed(self):
         os.symlink("/dev/null", os.path.join(self.folder, lock.NAME))

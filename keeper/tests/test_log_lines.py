@@ -38,12 +38,14 @@ class Looks(unittest.TestCase):
         text = (b"12.5\trising\tgpiochip0 17\nevent:  RISING EDGE offset: 17 timestamp: [ 12.5]\n"
                 b"Error: busy\n\nhalf")
         found = look([(0, text[:30]), (5, text[30:])], 10, 20.0, UNIX)
-        self.assertEqual((found.lines, found.edges, found.others), (4, 2, 2))
+        self.assertEqual((found.lines, found.edges, found.bad), (4, 2, 4))
         self.assertEqual(found.marks.widths, [])
-        self.assertEqual(found.fault, "'Error: busy': it isn't a start and a width")
+        self.assertEqual(found.last_bad, "'': it isn't a start and a width")
         found = look([(0, b"\0" * 20_000)], 10, 20.0, UNIX)
-        self.assertEqual((found.lines, found.others, found.fault),
-                         (1, 1, repr("\0" * 40) + ": it isn't a start and a width"))
+        self.assertEqual((found.lines, found.bad, found.last_bad),
+                         (1, 1, repr("\0" * 32) + ": it is too long"))
+        found = look([(0, b"half")], 10, 20.0, UNIX)
+        self.assertEqual((found.lines, found.bad, found.last_bad), (1, 1, "'half': it was cut off"))
         self.assertEqual(look([], 10, 20.0, UNIX), Look())
 
     def test_history_is_left_out(self) -> None:
@@ -56,28 +58,26 @@ class Sentences(unittest.TestCase):
             (Look(), "nothing was received: no carrier, no power, another line, or no right to it"),
             (Look(lines=4, edges=4),
              "its lines are edges: put `| feeders/edges_to_log.py` after the command"),
-            (Look(lines=2, others=2, fault="'x': y"),
-             "2 lines were no start and width; the first: 'x': y"),
+            (Look(lines=2, bad=2, last_bad="'x': y"),
+             "2 lines were no start and width; the last: 'x': y"),
         ):
             self.assertEqual(judge_log(found, "dcf"), [(Level.BAD, said)])
 
     def test_lines(self) -> None:
         """Of each one what is meant, as a person would have to know it."""
         marks = log("dcf77")[20:31]
+        start, width = marks[-1]
         cases: tuple[tuple, ...] = (
             (b"%d %d\r\n", 0, 1,
-             "11 of 11 lines are bad, and the keeper leaves them out; the first: '21002442 "
-             "99414\\r': a carriage return (CR) stands at its end"),
-            (b"%d\t%d\n", 0, 1, "a tab stands in it"),
-            (b"\xef\xbb\xbf%d %d\n", 0, 1, "a byte order mark stands before it"),
-            (b"%d,%d\n", 0, 1, "a space alone stands between start and width"),
-            (b"0%d %d\n", 0, 1, "a number begins with 0"),
-            (b"%d  %d\n", 0, 1, "a space is too many"),
+             "11 of 11 lines are bad, and the keeper leaves them out; the last: "
+             f"'{start} {width}\\r': it isn't a start and a width"),
+            (b"%d\t%d\n", 0, 1, f"11 lines were no start and width; the last: '{start}\\t{width}': "),
+            (b"\xef\xbb\xbf%d %d\n", 0, 1, f"; the last: '\\\\xef\\\\xbb\\\\xbf{start} {width}': it isn't"),
+            (b"0%d %d\n", 0, 1, "11 of 11 lines are bad, and the keeper leaves them out; the last: "
+             f"'0{start} {width}': it isn't a start and a width"),
             (b"%d %d\n", 0, 0, "its widths are 0: a mark has 1 to 2000000 microseconds"),
-            (b"%d %d\n", 0, 1e-3, "its widths are milliseconds, and its starts microseconds: a log "
-             "has microseconds in both"),
+            (b"%d %d\n", 0, 1e-3, "too short by some 100 ms for DCF77"),
             (b"%d %d\n", "ms", 1, "its starts are milliseconds: a log has microseconds"),
-            (b"%d %d\n", "ms", 1, "its widths are microseconds, and its starts milliseconds"),
             (b"%d %d\n", UNIX, 1, "its starts are microseconds of the real-time clock: a log has "
              "microseconds of the monotonic clock"),
             (b"%d %d\n", 5e9, 1, "its starts are of no clock of this host: a log has microseconds"),
@@ -107,7 +107,8 @@ class Sentences(unittest.TestCase):
                      for place, (start, width) in enumerate(marks[:count])]
             found = judge_log(looked_at(marks[:count], lines), "dcf")
             self.assertEqual(found[0], (level, f"{bad} of {count} lines are bad, and the keeper "
-                                        "leaves them out; the first: '20000000 0': its width is 0"))
+                                        f"leaves them out; the last: '{20 + bad - 1}000000 0': it "
+                                        "isn't a start and a width"))
 
 
 if __name__ == "__main__":

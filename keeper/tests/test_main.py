@@ -58,20 +58,13 @@ class CommandLine(unittest.TestCase):
         self.assertRegex(done.stdout, r"\Aradio_keeper \S+\n\Z")
 
     def test_words_that_are_not_valid(self):
-        for words in ((), ("serve",), ("status", "--yaml"), ("status", "--json", "--nagios"),
+        for words in ((), ("serve",), ("stop",), ("status", "--yaml"), ("status", "--json", "--nagios"),
                       ("watch", "--every", "0"), ("check", "--seconds", "x"),
                       ("calibrate", "--minutes", "0"), ("run", "x")):
             with self.subTest(words=words):
                 told, out, said = self.run_keeper(*words)
                 self.assertEqual((told, out), (64, ""))
                 self.assertTrue(said)
-
-    def test_words_for_the_service(self):
-        for word in ("stop", "restart"):
-            told, _, said = self.run_keeper(word)
-            why = f"`systemctl {word} radio_ntpd` is meant for the service"
-            self.assertEqual((told, said.splitlines()[-1]),
-                             (64, f"radio_keeper {word}: {why}"))
 
     def test_no_file(self):
         for command in ("run", "check", "calibrate"):

@@ -104,7 +104,7 @@ class Names(unittest.TestCase):
             self.assertIn(f"\n.It {number}\n", MANUAL)
 
     def test_what_an_alarms_command_gets(self) -> None:
-        found = Alarms(Host()).environment(State(), Alarm(), None)
+        found = Alarms(Host()).environment(State(), Alarm())
         self.assertEqual(len(found), 11)
         for name in found:
             self.assertIn(name, MANUAL)

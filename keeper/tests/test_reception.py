@@ -2,7 +2,9 @@
 
 import random
 import unittest
+from unittest import mock
 
+from keeper.reporter import reception as reception_module
 from keeper.reporter.reception import Reception, spread_of
 from keeper.reporter.state import Quarter, RadioState
 from keeper.tests.test_receiver import Pairs, log, upside_down
@@ -106,6 +108,51 @@ class Minutes(unittest.TestCase):
         self.assertEqual(self.radio.verdicts_hour, 2)
 
 
+class Decoded(unittest.TestCase):
+    """What `decode` says of all pulses that are kept, each time anew."""
+
+    def take(self, reception: Reception, *lines: str) -> list[tuple[int, int]]:
+        """The pulses that it was given."""
+        reception.due = 0.0
+        with mock.patch.multiple("keeper.reporter.reception", begun=mock.Mock(), said=lambda _: lines):
+            reception.decode(MINUTE + 100)
+            reception.decode(MINUTE + 100)
+            return list(reception_module.begun.call_args.args[2])  # type: ignore[attr-defined]
+
+    def test_one_that_hangs_is_ended_when_the_next_is_due(self) -> None:
+        reception, child = Reception(RadioState(plan="dcf")), mock.Mock()
+        reception.pulse(5_000_000, 100_000, 5_000_000)
+        child.poll.return_value = None
+        begun = mock.patch("keeper.reporter.reception.begun", return_value=child)
+        with begun as calls, mock.patch("keeper.reporter.reception.said", return_value=[LINE]):
+            for at, kills in ((5.0, 0), (6.0, 0), (24.9, 0), (25.0, 1)):
+                with mock.patch("time.monotonic", return_value=at):
+                    reception.decode(MINUTE + 100)
+                self.assertEqual(child.kill.call_count, kills, at)
+        self.assertEqual((calls.call_count, len(reception.minutes)), (1, 1))
+
+    def test_each_minute_counts_once(self) -> None:
+        reception = Reception(RadioState(plan="dcf"))
+        reception.pulse(360_000_000, 100_000, 360_000_007)
+        self.assertEqual(self.take(reception, LINE, "status 0"), [(360_000_007, 100_000)])
+        self.take(reception, "0 302003000 refused 2", LINE, "0 422003000 lone 3976257960")
+        self.assertEqual([kind for _, kind in reception.minutes], ["verdict", "lone"])
+
+    def test_minutes_of_a_counter_that_begins_anew(self) -> None:
+        reception = Reception(RadioState(plan="dcf"))
+        reception.pulse(500_000_000, 100_000, 500_000_000)
+        self.take(reception, "0 422003000 lone 3976257960")
+        reception.pulse(5_000_000, 100_000, 5_000_000)
+        self.take(reception, LINE)
+        self.assertEqual([kind for _, kind in reception.minutes], ["lone", "verdict"])
+
+    def test_a_quarter_of_an_hour_is_read(self) -> None:
+        reception = Reception(RadioState(plan="dcf"))
+        for second in range(2000):
+            reception.pulse(second * 1_000_000, 1, second * 1_000_000)
+        self.assertEqual(self.take(reception)[0], (1_099_000_000, 1))
+
+
 class Marks(unittest.TestCase):
     """What the marks of the last minute look like, while the service runs."""
 
@@ -191,7 +238,7 @@ class Spreads(unittest.TestCase):
     def test_a_new_counter_begins_anew(self) -> None:
         reception = Reception(RadioState())
         for start in [*range(0, 600_000_000, 1_000_000), 5]:
-            self.assertLessEqual(len(reception.pulses), 301)
+            self.assertLessEqual(len(reception.pulses), 901)
             reception.pulse(start, 100_000, start)
         self.assertEqual(list(reception.pulses), [(5, 100_000, 5)])
 

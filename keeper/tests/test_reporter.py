@@ -24,7 +24,7 @@ from keeper.tests.test_station_state import Folder, facts
 class Reporters(Folder):
     def reporter(self) -> Reporter:
         reporter = Reporter(Host(), self.runtime)
-        self.addCleanup(reporter.close)
+        self.addCleanup(reporter.alarms.commands.close)
         return reporter
 
     def tell(self, reporter: Reporter, message: dict) -> Station:

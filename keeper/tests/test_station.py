@@ -8,14 +8,14 @@ from keeper import station
 TEXTS = (
     "leap = 1\n", "radio = 3\n", "[link]\nport = 3\n",
     'a = "\\u0001\\"\\\\é\\n\\u007f\\U0001f4fb"\n',
-    'bound = 1.5\nflag = true\nat = 2026-01-02\nlist = [1, "a"]\n', "list = []\n[[radio]]\n",
+    'bound = 1.5\nflag = true\nlist = [1, "a"]\n', "list = []\n[[radio]]\n",
     '"odd key" = 1\n[[radio]]\nplan = "dcf"\n[[radio]]\nplan = "msf"\nmore = {a = 1, b = [true]}\n',
 )
 
 
 class Text(unittest.TestCase):
     def test_it_reads_back_as_it_was(self) -> None:
-        """Also what the program would refuse."""
+        """Also much that the program would refuse."""
         for text in TEXTS:
             with self.subTest(text=text):
                 values = tomllib.loads(text)

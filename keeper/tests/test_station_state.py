@@ -155,7 +155,7 @@ class Stations(Folder):
         station = Station(a_good_station(now + 86400))
         station.take(facts(self.folder))
         station.renew(now)
-        self.assertLess(station.radios[0].reception.counted, now + 1)
+        self.assertLess(station.radios[0].counted, now + 1)
         self.assertTrue(all(one.at <= now for one in station.state.alarms))
         self.assertTrue(all(one.at <= now for one in station.state.radios[0].reception))
 

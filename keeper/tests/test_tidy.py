@@ -6,6 +6,7 @@ import pathlib
 import tempfile
 import unittest
 from collections.abc import Callable
+from datetime import date
 from unittest import mock
 
 from keeper.reporter import tidy
@@ -29,7 +30,7 @@ class Folder(unittest.TestCase):
 
 
 class Tidied(Folder):
-    today = "20231114"
+    today = date(2023, 11, 14)
 
     def tidy(self, days: int = 3, most: int = 10**9) -> int:
         recent = {self.today}
@@ -71,7 +72,9 @@ class Tidied(Folder):
         for text in (b"1 1\n", b"1 1\n", b"2 1\n"):
             self.put(name, text)
             self.tidy()
-        self.assertEqual(self.names(), [name + ".gz", "0-dcf.20231113.b0070001_2.log.gz"])
+        self.assertEqual(self.names(), [name + ".gz"])
+        packed = (self.folder / (name + ".gz")).read_bytes()
+        self.assertEqual(gzip.decompress(packed), b"1 1\n2 1\n")
 
     def test_the_oldest_go_where_there_are_too_many_bytes(self) -> None:
         for day in (11, 12, 13, 14):
@@ -100,7 +103,9 @@ class Tidied(Folder):
                 (["20260201"], "20260302", "20260130"), (["20260301"], "20360101", "20260227"),
                 (["20360101"], "20260301", "20260226")):
             with self.subTest(there=there, today=today):
-                self.assertEqual(tidy.oldest_kept(there, today, 3), due)
+                days = [date.fromisoformat(one) for one in there]
+                oldest = tidy.oldest_kept(days, date.fromisoformat(today), 3)
+                self.assertEqual(f"{oldest:%Y%m%d}", due)
 
 
 class Compressed(Folder):
@@ -143,7 +148,7 @@ class Compressed(Folder):
         os.link(victim, self.folder / (LOG + ".gz.part"))
         with mock.patch("os.unlink", side_effect=FileNotFoundError):
             with self.assertRaises(FileExistsError):
-                tidy.compress(Host(), self.put(LOG, b"1 1\n"))
+                tidy.compress(Host(), self.put(LOG, b"2 1\n"))
         (self.folder / LOG).unlink()
         os.symlink(victim, self.folder / LOG)
         with self.assertRaises(OSError):

@@ -37,6 +37,7 @@ class WholeFiles(unittest.TestCase):
         self.assertTrue(has_tree(self.place, TREE))
         put_folder(self.place, {"page": (b"three", 0o644)})
         self.assertTrue(has_tree(self.place, {"page": (b"three", 0o644)}))
+        self.assertEqual(os.listdir(self.place), ["page"])
         self.assertEqual(os.listdir(self.top / "new"), ["place"])
 
     def test_another_text_mode_file_or_folder_is_not_the_tree(self) -> None:
