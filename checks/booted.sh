@@ -5,6 +5,7 @@
 export LC_ALL=C
 PATH="$PATH:/usr/sbin:/sbin"
 has=systemd,systemd-sysv,dbus,python3,procps
+architecture=amd64
 program=${RADIO_NTPD:-crates/radio_ntpd/out/radio_ntpd}
 work=$(mktemp -d) || exit 1
 host="$work/host"
@@ -47,7 +48,7 @@ make_debian() {
     if [ -n "${DEBIAN:-}" ]; then
         cp -a "$DEBIAN" "$host"
     else
-        mmdebstrap --mode=root --variant=apt --include="$has" bookworm "$host"
+        mmdebstrap --mode=root --architectures="$architecture" --variant=apt --include="$has" bookworm "$host"
     fi > "$work/made" 2>&1 || fails "no Debian: $(tail -n 3 "$work/made")"
 }
 # Words that run in the Debian, once it is booted.

@@ -14,7 +14,6 @@ from keeper.host_checks import become_service
 from keeper.lateness import LEAST, Minute, minutes_of, result, sentences
 from keeper.reference import Server
 from keeper.reporter.decoder import begun, said
-from keeper.supervisor.clocks import counter, tag_of
 from keeper.supervisor.host import Host
 from keeper.supervisor.logs import PulseLog
 from keeper.supervisor.pulses import Lines, Pulse
@@ -80,6 +79,18 @@ def listen(settings: config.Settings, number: int, server: Server | None,
             if one.at >= began and (offset := server.offset_at(one.at)) is not None]
 
 
+def written_tag(host: Host, folder: str, number: int, plan: str) -> str:
+    """The tag of the log that the keeper writes of a radio: the newest one's. We can't reckon it,
+    since only the keeper knows the pauses of its counter, and a container may show it another boot.
+    Raises OSError."""
+    names = [one for one in host.names(folder)
+             if one.startswith(f"{number}-{plan}.") and one.endswith(".log")]
+    if not names:
+        raise Fault(f"radio {number}: the keeper that runs has no log of it yet")
+    newest = max(names, key=lambda one: host.stat(os.path.join(folder, one)).st_mtime)
+    return newest.split(".")[-2]
+
+
 def heard(settings: config.Settings, number: int, seconds: float) -> Iterator[tuple[int, bytes]]:
     """The pieces of a radio's source; those of its log of the day where a keeper runs."""
     host, radio = Host(), settings.radios[number]
@@ -87,7 +98,7 @@ def heard(settings: config.Settings, number: int, seconds: float) -> Iterator[tu
         yield from pieces(host, source_of(host, radio.kind, radio.value), seconds)
         return
     folder = os.path.join(settings.folder, "logs")
-    tag = tag_of(counter(host, host.boot()), f"{radio.kind} {radio.value}")
+    tag = written_tag(host, folder, number, radio.plan)
     log, end = PulseLog(host, folder, number, radio.plan, tag), time.monotonic() + seconds
     while (left := end - time.monotonic()) > 0:
         path = os.path.join(folder, log.name(time.time()))

@@ -3,6 +3,8 @@
     python3 -m checks.pages.follow packages      prints a line of shell for each package that the pages have installed
     python3 -m checks.pages.follow LEADER        runs the table of followed.py in the Debian whose first process is LEADER
 
+With --packaged the package is installed first, and its names of the programs stand in the place of those of the folder.
+
 Exit status: 0 each command did what its page says, 1 one didn't, 2 wrong arguments.
 """
 
@@ -13,7 +15,7 @@ import sys
 import time
 
 from checks.pages.commands import commands_of
-from checks.pages.followed import LEFT, PACKAGES, ROWS, Row
+from checks.pages.followed import CONTRIBUTING, LEFT, PACKAGE, PACKAGED, PACKAGES, ROWS, Row
 
 FOLDER = "/root/radio_ntpd"
 LIMIT = 900.0  # for a row, in seconds
@@ -21,7 +23,7 @@ ENVIRONMENT = {"PATH": "/usr/local/sbin:/usr/local/bin:/usr/sbin:/usr/bin:/sbin:
                "TERM": "xterm", "PAGER": "cat"}
 
 
-def script_of(row: Row) -> str:
+def script_of(row: Row, packaged: bool = False) -> str:
     """What a row has the shell run: the page's commands without their comments, with what is given in place of its words."""
     script = row.script
     for number, command in enumerate(row.commands):
@@ -29,6 +31,8 @@ def script_of(row: Row) -> str:
         for word, value in row.given:
             command = command.replace(word, value)
         script = script.replace(f"@{number}", command)
+    for name, installed in PACKAGED if packaged else ():
+        script = re.sub(name, installed, script)
     return f"cd {FOLDER} || exit 99\n{script}\n"
 
 
@@ -44,9 +48,9 @@ def faults_of(row: Row, status: int, said: str) -> list[str]:
     return found
 
 
-def follow(row: Row, leader: int) -> bool:
+def follow(row: Row, leader: int, packaged: bool) -> bool:
     """Runs a row in the Debian, says how that ended, and returns whether it is as the page says."""
-    words = ["nsenter", "--all", "--root", "--wd", f"--target={leader}", "sh", "-c", script_of(row)]
+    words = ["nsenter", "--all", "--root", "--wd", f"--target={leader}", "sh", "-c", script_of(row, packaged)]
     began = time.monotonic()
     try:
         done = subprocess.run(words, stdin=subprocess.DEVNULL, stdout=subprocess.PIPE, stderr=subprocess.STDOUT, timeout=LIMIT, env=ENVIRONMENT)
@@ -65,17 +69,21 @@ def main() -> int:
     parser = argparse.ArgumentParser(description=__doc__, formatter_class=argparse.RawDescriptionHelpFormatter)
     parser.add_argument("what", metavar="packages|LEADER", help="'packages', or the number of the Debian's first process")
     parser.add_argument("--only", metavar="PAGE", help="the rows of one page alone")
+    parser.add_argument("--packaged", action="store_true", help="follow them where the package is installed")
     asked = parser.parse_args()
+    packages = [command for page, command in PACKAGES if not (asked.packaged and page == CONTRIBUTING)]
     if asked.what == "packages":
-        print(*(command for _, command in PACKAGES), sep="\n")
+        print(*packages, sep="\n")
         return 0
     if not asked.what.isdigit():
         parser.error(f"no number of a process: {asked.what}")
     rows = [row for row in ROWS if asked.only in (None, row.page)]
-    passed = [follow(row, int(asked.what)) for row in rows]
+    if asked.packaged:
+        rows = sorted((row for row in rows if not row.built), key=lambda row: PACKAGE not in row.commands)
+    passed = [follow(row, int(asked.what), asked.packaged) for row in rows]
     for left in LEFT:
         print(f"followed: not here: {left.page}: {len(left.commands)} of these, {left.why}: {'; '.join(left.commands)[:100]}")
-    run = sum(len(row.commands) for row in rows) + len(PACKAGES)
+    run = sum(len(row.commands) for row in rows) + len(packages)
     print(f"followed: {run} commands were run, {sum(len(left.commands) for left in LEFT)} were not; {passed.count(False)} of {len(rows)} rows differ")
     return 0 if all(passed) else 1
 

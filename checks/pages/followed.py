@@ -12,7 +12,8 @@ KEEPER, CONTRIBUTING = "docs/KEEPER.md", "CONTRIBUTING.md"
 class Row(NamedTuple):
     """Commands of a page, which follow each other there or belong together. In `script` @0, @1 .. stand for them, and `given` has what is put
     in place of a page's word. `shows`: texts that the page has, and their output too. `matches`: regular expressions for what the page
-    describes. `status`: that of the script. `exact`: the output is what the page shows below the command, and no more.
+    describes. `status`: that of the script. `exact`: the output is what the page shows below the command, and no more. `built`: it needs the
+    folder in which the program was built, and so isn't followed where the package is installed.
     """
 
     page: str
@@ -23,6 +24,7 @@ class Row(NamedTuple):
     matches: tuple[str, ...] = ()
     status: int = 0
     exact: bool = False
+    built: bool = False
 
 
 class Left(NamedTuple):
@@ -52,6 +54,10 @@ def beside(run: str, then: str) -> str:
     return BESIDE.replace("@RUN", run).replace("@THEN", then)
 
 
+PACKAGE = "sudo apt install ./radio-ntpd_*.deb"
+# What FIRST_EVENING has written in place of the folder's names where the package is installed.
+PACKAGED = ((r"\./radio_ntpd\b", "/usr/sbin/radio_ntpd"), (r"\./radio_keeper\b", "radio_keeper"),
+            (r"(?<![\w/.])(feeders|tools)/", r"/usr/lib/radio_ntpd/\1/"), ("/usr/local/lib/", "/usr/lib/"))
 # What the pages have installed before: Debian's packages.
 PACKAGES = (
     (EVENING, "sudo apt install gpiod python3"),
@@ -98,7 +104,7 @@ ROWS = (
         r"""awk 'NR == 1 { first = $1 } { printf "%.0f %.0f\n", $1 - first, $2 }' FILE""",
         r"""awk 'NR > 1 { width = $1 - end; printf "%.0f %.0f\n", end, (width < 2000000 ? width : 2000000) } { end = $1 + $2 }' FILE""",
         "feeders/edges_to_log.py < FILE", r"""awk '{ printf "%.0f %.0f\n", $1 * 60000000 / 60180000, $2 }' FILE""",
-    ), script="python3 -B -m unittest checks.pages.test_recipes", matches=(r"Ran [0-9]+ tests in .*", "OK")),
+    ), script="python3 -B -m unittest checks.pages.test_recipes", matches=(r"Ran [0-9]+ tests in .*", "OK"), built=True),
     Row(OPERATING, (LEAP,), shows=("j2 1 0 1 0 notice 3692217600", "reply 640106ec", "j2 11 0 0 603000000 refused 3", "reply e40006ec",
                                    "reply 240106ec"), matches=("status 0",)),
     # The two files of the first evening, whose other steps checks/evening.sh follows.
@@ -135,7 +141,7 @@ printf 'server 127.0.0.1 port 12300 iburst key 1\nkeyfile /etc/chrony/radio.keys
 @0; kill "$(cat /run/chrony/chronyd.pid)"; wait; cat served""", matches=(r"127\.0\.0\.1 +SK +1 .*", r"link 0 answered [1-9].*")),
     # The service.
     Row(EVENING, ("sudo ./radio_keeper install", "sudo ./radio_keeper install --do"),
-        script="@0 && [ ! -e /usr/local/bin/radio_keeper ] && @1", matches=(".*/usr/local/sbin/radio_ntpd.*",)),
+        script="@0 && [ ! -e /usr/local/bin/radio_keeper ] && @1", matches=(".*/usr/local/sbin/radio_ntpd.*",), built=True),
     Row(EVENING, ("cd /", "sudo radio_keeper check"), script=r"""
 cp station.toml keeper.toml /etc/radio_ntpd/ && cd /etc/radio_ntpd &&
 sed -i 's/^port = 12300/port = 123/' station.toml &&
@@ -149,7 +155,7 @@ chmod 640 station.toml && chgrp radio_ntpd station.toml keeper.toml
     # ^C ends them: with the minutes of the log the first has enough, the second says how many are wanting.
     Row(EVENING, ("sudo radio_keeper calibrate --minutes 60", "sudo radio_keeper calibrate --minutes 120 --server 192.0.2.1"),
         script="cd /; ip address add 192.0.2.1/32 dev lo; timeout --signal=INT 30 @0; timeout --signal=INT 30 @1; true",
-        matches=("set in the station file: delay = .*", "compared with .*192.0.2.1.*", r"\d+ minutes were believed")),
+        matches=("set in the station file: delay = .*", r"compared with \d+ exchanges, .*", r"\d+ minutes were believed")),
     Row(OPERATING, ("./radio_keeper calibrate",), given=(("calibrate", "calibrate --minutes 8"),), script="./radio_keeper --help",
         matches=(".*calibrate.*",)),
     Row(EVENING, ("sudo systemctl reload radio_ntpd",), script="cd /; @0 && sleep 5 && journalctl -u radio_ntpd | tail -n 5",
@@ -185,12 +191,12 @@ SYSTEMD_EDITOR='cp /root/drop-in' script -qec '@0' /dev/null; systemctl show --p
 sed 's/12300/123/' examples/serve.toml > low.toml; chmod 755 /root
 setpriv --reuid=op --clear-groups ./radio_ntpd serve --station low.toml --during 1; @0
 setpriv --reuid=op --clear-groups ./radio_ntpd serve --station low.toml --during 1 | tail -n 1""", shows=("status 2 open link 0",),
-        matches=("status 0",)),
+        matches=("status 0",), built=True),
     Row(KEEPER, ("systemctl mask sleep.target suspend.target hibernate.target",), script="@0; systemctl is-enabled sleep.target",
         matches=("masked",), status=1),
     Row(EVENING, ("sudo radio_keeper install --remove",), script="cd /; @0 && @0 --do && ls /usr/local/bin /usr/local/sbin",
-        matches=(".*/usr/local/sbin/radio_ntpd.*",)),
-    Row(EVENING, ("sudo apt install ./radio-ntpd_*.deb",), script="cd /opt/deb && @0 && /usr/sbin/radio_ntpd drill --seed 7 && radio_keeper --version",
+        matches=(".*/usr/local/sbin/radio_ntpd.*",), built=True),
+    Row(EVENING, (PACKAGE,), script="cd /opt/deb && @0 && /usr/sbin/radio_ntpd drill --seed 7 && radio_keeper --version",
         matches=("status 0", "radio_keeper .*")),
 )
 TOOLCHAIN = "needs the toolchain, which is no package of Debian"

@@ -15,7 +15,6 @@ from keeper import calibrate, lock
 from keeper.arguments import parse
 from keeper.errors import Fault
 from keeper.lateness import Minute
-from keeper.supervisor.clocks import counter, tag_of
 from keeper.supervisor.logs import PulseLog
 from keeper.supervisor.host import Host
 
@@ -96,15 +95,33 @@ class Whole(unittest.TestCase):
         self.assertAlmostEqual(float(found[1]) * 1000, self.LATE, delta=200)
         self.assertAlmostEqual(int(found[2]), self.LATE, delta=200)
 
-    def test_by_the_log_of_a_keeper_that_runs(self):
+    def keeper_runs(self, *tags):
+        """A keeper holds a lock on its folder, and has written these logs, each a minute after the
+        one before."""
         self.settings("exit 9")
         host = Host()
-        log = PulseLog(host, "", 0, "dcf", tag_of(counter(host, host.boot()), "command exit 9"))
-        self.write(f"state/logs/{log.name(time.time())}", "\n".join(self.marks()) + "\n")
-        # A keeper holds a lock on its folder.
-        self.addCleanup(os.close, lock.take(host, os.path.join(self.folder, "state")))
+        os.makedirs(f"{self.folder}/state/logs")
+        for number, tag in enumerate(tags):
+            name = PulseLog(host, "", 0, "dcf", tag).name(time.time())
+            lines = self.marks() if tag == tags[-1] else ["5000000 100000"]
+            path = self.write(f"state/logs/{name}", "\n".join(lines) + "\n")
+            written = time.time() + 60 * (number - len(tags) + 1)
+            os.utime(path, (written, written))
+        self.addCleanup(os.close, lock.take(host, f"{self.folder}/state"))
+
+    def test_by_the_log_of_a_keeper_that_runs(self):
+        """Its name has what only the keeper knows. Other logs of the day are of other boots."""
+        self.keeper_runs("ffffffff", "00000000", "89abcdef")
+        self.write("state/logs/0-msf.20261202.0123abcd.log", "")
+        self.write("state/logs/10-dcf.20261202.0123abcd.log", "")
         told, said = self.calibrate(4.0)
         self.assertEqual(told, 0, said)
+        self.assertIn("set in the station file: delay = 34", said)
+
+    def test_a_keeper_that_has_received_nothing_yet(self):
+        self.keeper_runs()
+        with self.assertRaisesRegex(Fault, "radio 0: the keeper that runs has no log of it yet"):
+            self.calibrate(4.0)
 
     def test_one_that_is_interrupted_says_what_it_has(self):
         self.write("marks", "\n".join(self.marks()) + "\n")
