@@ -112,6 +112,8 @@ if [ "$architecture" = arm64 ]; then
 fi
 run 1
 [ $told = 0 ] || wrong "packages: $(tail -n 2 "$work/step.1")"
+# An emulated Python that isn't in memory yet takes more than the ten seconds.
+inside 'timeout 100 gpiomon gpiochip0 17 | head -n 1' > "$work/warm" 2>&1
 run 2
 has 2 'RISING EDGE offset: 17'
 run 3
@@ -135,7 +137,7 @@ nsenter --net="/proc/$network/ns/net" chroot "$host" sh -c "cd $home && exec $(s
 keeper=$!
 # Eight minutes after the first minute mark there is a time.
 turns=0
-until inside "timeout --signal=INT 5 $(step 9)" > "$work/step.9" 2>&1; grep -q 'OK: ' "$work/step.9"; do
+until inside "timeout --signal=INT 5 $(step 9)" > "$work/step.9" 2>&1; grep -q 'OK: time ' "$work/step.9"; do
     turns=$((turns + 1))
     [ $turns -lt 240 ] || { wrong "no time after twenty minutes: $(tail -n 9 "$work/step.9"; tail -n 3 "$work/step.8")"; break; }
 done

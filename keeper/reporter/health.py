@@ -34,6 +34,8 @@ def judge(state: State, now: float) -> list[tuple[Level, str]]:
     """What isn't well, the worst first; nothing where all is well. `now` in Unix s."""
     if ended := _ended(state, now):
         return [(Level.CRITICAL, ended)]
+    if not state.links and not state.run.number:
+        return [(Level.CRITICAL, "no run serves yet")]
     found = [one for link in state.links if (one := _link(state, link, now))]
     found += [(Level.WARNING, one) for one in _warnings(state, now)]
     return sorted(found, key=lambda one: -one[0])

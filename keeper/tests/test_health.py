@@ -64,13 +64,14 @@ CASES: tuple[tuple[dict, str, str], ...] = (
     ({"alarms": [Alarm("run-died", NOW - 60, "x")], "keeper_since": NOW - 30}, "OK", "time from"),
     ({"notes": ["the disk | is\nfull"]}, "WARNING", "the disk / is full"),
     ({"links": []}, "OK", "nothing is served"),
+    ({"links": [], "run.number": 0}, "CRITICAL", "no run serves yet"),
 )
 
 
 def changed(changes: dict) -> State:
     """A good station with some fields of it, or of its first link and so on, changed."""
     state = a_good_station()
-    parts = {"": state, "link": state.links[0], "radio": state.radios[0],
+    parts = {"": state, "run": state.run, "link": state.links[0], "radio": state.radios[0],
              "server": state.servers[0], "leap": state.leap_file}
     for name, value in changes.items():
         part, _, field = name.rpartition(".")

@@ -111,7 +111,7 @@ class CommandLine(unittest.TestCase):
             watch.send_signal(signal.SIGINT)
             rest, said = watch.communicate(timeout=30)
         self.assertEqual((watch.returncode, said), (130, ""))
-        self.assertGreaterEqual("".join([*lines, rest]).count("OK: nothing is served"), 2)
+        self.assertGreaterEqual("".join([*lines, rest]).count("CRITICAL: no run serves yet"), 2)
 
     def test_streams_that_are_closed(self):
         for closing in (">&-", "2>&-", "<&- >&- 2>&-"):

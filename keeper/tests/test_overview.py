@@ -81,8 +81,8 @@ class Text(unittest.TestCase):
     def test_a_state_without_anything(self) -> None:
         self.assertIn("CRITICAL: no keeper runs", overview.render(State(), NOW))
         said = overview.render(State(written=NOW, keeper_pid=1), NOW)
-        self.assertEqual(said, "OK: nothing is served\n\n2026-01-01 12:05:00 UTC, 0 s ago: station "
-                               ", bound 1000 ms, not kept\n")
+        self.assertEqual(said, "CRITICAL: no run serves yet\n\n2026-01-01 12:05:00 UTC, 0 s ago: "
+                               "station , bound 1000 ms, not kept\n")
 
 
 class Hours(unittest.TestCase):

@@ -87,7 +87,7 @@ class Page(unittest.TestCase):
         self.assertIn("|No keeper runs: its state is ", self.read(State()))
         radio = RadioState(source="running")
         state = State(written=NOW, keeper_pid=1, radios=[radio], keeper_since=NOW)
-        self.assertIn("|Nothing is served|", self.read(state))
+        self.assertIn("|No run serves yet|", self.read(state))
 
     def test_it_says_when_it_was_written(self) -> None:
         self.assertIn("Date.now() / 1000 - 1767269100)", page.render(a_good_station(), NOW))
