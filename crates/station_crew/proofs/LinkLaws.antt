@@ -24,11 +24,11 @@ use Rattle.responder.specs.Turns.{Turn, Reading, readings_of, IsRead, AreTurns, 
 use Rattle.responder.specs.declared.served.End.{End}
 use Rattle.responder.specs.declared.served.End.TheVariants.{Count, LinkEnd, LinkFault}
 use Rattle.responder.specs.declared.served.Served.{Served}
-use Rattle.feed_workers.proofs.ListLaws.{all_right, each_map, map_both, pairs_at, pairs_length, some_of}
+use Rattle.feed_workers.proofs.ListLaws.{all_right, each_map, map_both, some_of}
 use Rattle.station_crew.specs.Crews.{IsNewReader}
 use Rattle.station_crew.specs.Collecting.{link_of, serve_pass}
 use Rattle.station_crew.specs.Jobs.{HasServed, HasServedAgain}
-use Rattle.feed_workers.specs.Lists.{Each, Pairs}
+use Rattle.feed_workers.specs.Lists.{Each}
 use Rattle.feed_workers.specs.Served.{HasSecond, IsReadOf, LinksServed, ServesLink, ServesPhase, Service, seen}
 use Rattle.station_crew.specs.Informing.{HasSeenAll, HasServedTwice, WasInformed}
 use Rattle.station_crew.specs.declared.jobs.ServeJob.{ServeJob}
@@ -184,16 +184,16 @@ readers_are table xs new = λ i d lt. (subst (IsNewReader table) (get_or-map ser
 
 -- the responders have served in both phases
 pub served_twice : {T : Type 0} (state : T → LinkState) (opening : T → ℕ) (budget : Budget) (feeds : List Known) (xs ys zs ws : List (ServeJob T))
-    → Each (HasServed state opening budget.during) xs ys → length ys ≡ length xs → Pairs (WasInformed feeds) ys zs → Each (HasServedAgain state opening budget.after) zs ws → Each (HasServedTwice state opening budget feeds) xs ws
-served_twice state opening budget feeds xs ys zs ws first same informed second = record {
+    → Each (HasServed state opening budget.during) xs ys → length ys ≡ length xs → Each (WasInformed feeds) ys zs → length zs ≡ length ys → Each (HasServedAgain state opening budget.after) zs ws → Each (HasServedTwice state opening budget feeds) xs ws
+served_twice state opening budget feeds xs ys zs ws first same informed count second = record {
   at = (λ i d lt.
       let lt1 : i < length ys = omega (arith, lt, same) in
-      let lt2 : i < length zs = omega (arith, lt1, pairs_length (WasInformed feeds) ys zs informed) in
+      let lt2 : i < length zs = omega (arith, lt1, count) in
       record {
         between = get_or ys i d;
         informed = get_or zs i d;
         served = first.at i d lt;
-        learnt = pairs_at (WasInformed feeds) ys zs i d d informed lt1;
+        learnt = informed.at i d lt1;
         again = second.at i d lt2;
       });
 }

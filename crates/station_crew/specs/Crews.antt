@@ -53,11 +53,9 @@ pub record HasRoomForWork (of_radios of_servers of_links : ℕ) (work : Work) : 
   pub servers : of_servers ≤ vec_capacity work.servers
   pub links : of_links ≤ vec_capacity work.links
 
--- room for all of it, and for the responders of the second phase; and this gate once for each link
+-- room for the workers and what they did, and this gate once for each link
 pub record HasRoom {L T X : Type 0} {F : X → Type 0} (gate : Gate) (of_radios of_servers of_links : ℕ) (room : Reserved L T X F) : Type 0 where
   pub crew : HasRoomFor of_radios of_servers of_links room.crew
-  pub none_informed : room.informed.items ≡ []
-  pub informed : of_links ≤ vec_capacity room.informed
   pub work : HasRoomForWork of_radios of_servers of_links room.work
   pub gates : vec_len room.gates ≡ of_links
   pub alike : All (λ g. g ≡ gate) room.gates.items

@@ -21,6 +21,7 @@ HasSeenAll feeds r = All (λ f. length (claim_of f.view).seen ≤ r.view.seen) f
 pub record WasInformed {T : Type 0} (feeds : List Known) (a b : ServeJob T) : Type 0 where
   pub link : b.responder.link ≡ a.responder.link
   pub work : b.work ≡ a.work
+  pub number : b.responder.number ≡ a.responder.number
   pub keys : b.responder.keys ≡ a.responder.keys
   pub clients : b.responder.clients ≡ a.responder.clients
   pub learnt : HasLearnt a.responder.pass b.responder.pass

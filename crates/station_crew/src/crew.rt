@@ -22,7 +22,6 @@ pub struct Reserved<L: Drop, T: Drop> {
     pub alloc: Global,
     pub parts: CellParts,
     pub crew: Crew<L, T>,
-    pub informed: Vec<ServeJob<T>>,
     pub work: Work,
     pub gates: Vec<ClientGate>,
 }

@@ -74,7 +74,6 @@ pub fn serve_named<
         alloc,
         parts,
         crew,
-        mut informed,
         mut work,
         gates,
     } = room;
@@ -97,10 +96,10 @@ pub fn serve_named<
     );
     run_first(rt, &hub, gate, orders.budget.during, &mut crew);
     let Equipment { mut gear, .. } = equipment;
-    let responders = collect_feeds(crew, &mut gear, &mut work, &mut feeds);
-    inform_responders(hub.cell(), &mut feeds, responders, &mut informed);
-    run_second(rt, &hub, gate, orders.budget.after, &mut informed);
-    collect_responders(informed, &mut gear.links, &mut work.links, &mut readers);
+    let mut responders = collect_feeds(crew, &mut gear, &mut work, &mut feeds);
+    inform_responders(hub.cell(), &mut feeds, &mut responders);
+    run_second(rt, &hub, gate, orders.budget.after, &mut responders);
+    collect_responders(responders, &mut gear.links, &mut work.links, &mut readers);
     Ok(Ended {
         journal: hub.close(feeds, readers),
         gear,

@@ -86,15 +86,13 @@ fn make_room<L: Drop, T: Drop>(
 {
     match (
         make_crew(alloc, counts),
-        Vec::with_capacity(alloc, counts.links),
         make_work(alloc, counts),
         open_gates(alloc, station, counts.links),
     ) {
-        (Ok(crew), Ok(informed), Ok(work), Ok(gates)) => Ok(Reserved {
+        (Ok(crew), Ok(work), Ok(gates)) => Ok(Reserved {
             alloc,
             parts,
             crew,
-            informed,
             work,
             gates,
         }),

@@ -12,11 +12,11 @@ use Rattle.station_crew.proofs.CollectingLaws.{both_length}
 use Rattle.station_crew.proofs.PassLaws.{feeds_length}
 use Rattle.station_crew.proofs.FeedLaws.{feeds_keep, leap_served, may_receive, may_notice, may_poll, radios_served, seen_all, servers_served}
 use Rattle.station_crew.proofs.LinkLaws.{links_served, readers_are, served_twice}
-use Rattle.feed_workers.proofs.ListLaws.{each_keeps, leap_feeds-length, length-is-some, pairs_keep, pairs_length}
+use Rattle.feed_workers.proofs.ListLaws.{each_keeps, leap_feeds-length, length-is-some}
 use Rattle.station_crew.specs.Crews.{HasRoomForGear, HasRoomForWork, IsNewReader}
 use Rattle.station_crew.specs.Jobs.{HasServed, HasServedAgain, LeapRan}
 use Rattle.station_crew.specs.Collecting.{file_of, link_of, log_of, passes_of, serve_pass, server_link}
-use Rattle.feed_workers.specs.Lists.{Pairs}
+use Rattle.feed_workers.specs.Lists.{Each}
 use Rattle.feed_workers.specs.Served.{LeapServed, LinksServed, RadiosServed, ServersServed, column_of, seen, service_of}
 use Rattle.station_crew.specs.Informing.{HasSeenAll, WasInformed}
 use Rattle.system_fold.specs.Settings.{IsJournal, IsKept, SettingsFields}
@@ -33,9 +33,6 @@ reader_room had cap jobs room fit count same = omega arith
 
 feed_room : (radios pollers leap r p had cap room : ℕ) → had ≤ cap → had ≡ r + p + leap → radios ≡ r → pollers ≡ p → (l : ℕ) → l ≡ leap → room ≡ cap → radios + pollers + l ≤ room
 feed_room radios pollers leap r p had cap room fit count one two l three same = omega arith
-
-few_of : (n m : ℕ) → n ≡ m → m ≤ 8 → n ≤ 8
-few_of n m same le = omega arith
 
 adds_up : (f s both l r p a b d : ℕ) → f ≡ s → s ≡ both + l → both ≡ r + p → r ≡ a → p ≡ b → l ≡ d → f ≡ a + b + d
 adds_up f s both l r p a b d count whole most radios servers leap = omega arith
@@ -149,22 +146,6 @@ inform_responders-requires-clause-readers g c κs within =
     subst (λ t. All (λ x. x.responder.pass.table ≡ t) c.collect_feeds-responders.result.items) (sym c.cell.ensures)
     (subst (λ v. All (λ x. x.responder.pass.table ≡ table) v.items) (sym c.collect_feeds-responders.ensures.responders) first)
 
-pub inform_responders-requires-clause-few : goal.inform_responders-requires-clause-few
-inform_responders-requires-clause-few g c κs within =
-    let crew = c.assign_crew-crew.result in
-    let gear = c.args.equipment.gear in
-    let count : vec_len c.collect_feeds-responders.result ≡ vec_len gear.links =
-    ap vec_len c.collect_feeds-responders.ensures.responders ∙ c.run_first.ensures.counts.2 ∙ crew.responders.ok.0 ∙ sym (length-map crew.responders.items link_of) ∙ ap length c.assign_crew-crew.ensures.assigned.links ∙ sym gear.links.ok.0 in
-    subst (λ n. n ≤ 8) (sym count) (few_of (vec_len c.args.equipment.gear.links) (length c.args.station.now.links) c.requires.gear.links c.requires.station.ports)
-
-pub inform_responders-requires-clause-room : goal.inform_responders-requires-clause-room
-inform_responders-requires-clause-room g c κs within =
-    let crew = c.assign_crew-crew.result in
-    let gear = c.args.equipment.gear in
-    let count : vec_len c.collect_feeds-responders.result ≡ vec_len gear.links =
-    ap vec_len c.collect_feeds-responders.ensures.responders ∙ c.run_first.ensures.counts.2 ∙ crew.responders.ok.0 ∙ sym (length-map crew.responders.items link_of) ∙ ap length c.assign_crew-crew.ensures.assigned.links ∙ sym gear.links.ok.0 in
-    subst (λ n. n ≤ vec_capacity c.args.room.informed) (sym count) c.requires.room.informed
-
 pub run_second-requires-after_bounds : goal.run_second-requires-after_bounds
 run_second-requires-after_bounds g c κs within =
     let table = g.N.HubName.table in
@@ -174,29 +155,25 @@ run_second-requires-after_bounds g c κs within =
     let same : length ys ≡ length xs = sym c.run_first.new.crew.responders.ok.0 ∙ c.run_first.ensures.counts.2 ∙ c.assign_crew-crew.result.responders.ok.0 in
     let first = each_keeps (λ x. x.responder.pass.table ≡ table) (HasServed g.T.Link.state g.T.Link.opening c.args.orders.budget.during) (λ a b r h. r.same.table ∙ h) xs ys c.run_first.ensures.responders same
     (readers_are table xs (subst (All (IsNewReader table)) (sym readers) c.requires.readers)) in
-    pairs_keep (λ x. x.responder.pass.table ≡ table) (λ x. x.responder.pass.table ≡ table) (WasInformed c.collect_feeds-responders.new.feeds.items) (λ x y t h. t.learnt.table ∙ h) c.collect_feeds-responders.result.items c.inform_responders.new.informed.items c.inform_responders.ensures.informed
+    let given = c.collect_feeds-responders.result in
+    let zs = c.inform_responders.new.jobs in
+    each_keeps (λ x. x.responder.pass.table ≡ table) (WasInformed c.collect_feeds-responders.new.feeds.items) (λ x y t h. t.learnt.table ∙ h) given.items zs.items c.inform_responders.ensures.informed (sym zs.ok.0 ∙ c.inform_responders.ensures.count ∙ given.ok.0)
     (subst (λ v. All (λ x. x.responder.pass.table ≡ table) v.items) (sym c.collect_feeds-responders.ensures.responders) first)
 
 pub collect_responders-requires-clause-links : goal.collect_responders-requires-clause-links
 collect_responders-requires-clause-links g c κs within =
     let room = c.collect_feeds-responders.ensures.served in
     let had = c.collect_feeds-responders.new.gear.links in
-    let given = c.collect_feeds-responders.result in
-    let informed = c.inform_responders.new.informed in
     let now = c.run_first.new.crew in
-    let n = pairs_length (WasInformed c.collect_feeds-responders.new.feeds.items) given.items informed.items c.inform_responders.ensures.informed in
-    let count = c.run_second.ensures.count ∙ informed.ok.0 ∙ n ∙ sym given.ok.0 ∙ ap vec_len c.collect_feeds-responders.ensures.responders in
+    let count = c.run_second.ensures.count ∙ c.inform_responders.ensures.count ∙ ap vec_len c.collect_feeds-responders.ensures.responders in
     fits_left (vec_len had) (vec_len c.run_second.new.jobs) (vec_len now.responders) (vec_capacity had) (had.ok.0 ∙ ap length room.no_links) count room.links
 
 pub collect_responders-requires-clause-works : goal.collect_responders-requires-clause-works
 collect_responders-requires-clause-works g c κs within =
     let room = c.collect_feeds-responders.ensures.served in
     let had = c.collect_feeds-responders.new.work.links in
-    let given = c.collect_feeds-responders.result in
-    let informed = c.inform_responders.new.informed in
     let now = c.run_first.new.crew in
-    let n = pairs_length (WasInformed c.collect_feeds-responders.new.feeds.items) given.items informed.items c.inform_responders.ensures.informed in
-    let count = c.run_second.ensures.count ∙ informed.ok.0 ∙ n ∙ sym given.ok.0 ∙ ap vec_len c.collect_feeds-responders.ensures.responders in
+    let count = c.run_second.ensures.count ∙ c.inform_responders.ensures.count ∙ ap vec_len c.collect_feeds-responders.ensures.responders in
     fits_left (vec_len had) (vec_len c.run_second.new.jobs) (vec_len now.responders) (vec_capacity had) (had.ok.0 ∙ ap length room.no_works) count room.works
 
 pub collect_responders-requires-clause-readers : goal.collect_responders-requires-clause-readers
@@ -204,10 +181,8 @@ collect_responders-requires-clause-readers g c κs within =
     let given = c.in-Ok.parts.readers in
     let had = c.assign_crew-crew.new.readers in
     let crew = c.assign_crew-crew.result in
-    let informed = c.inform_responders.new.informed in
     let now = c.run_first.new.crew in
-    let n = pairs_length (WasInformed c.collect_feeds-responders.new.feeds.items) c.collect_feeds-responders.result.items informed.items c.inform_responders.ensures.informed in
-    let count = c.run_second.ensures.count ∙ informed.ok.0 ∙ n ∙ sym c.collect_feeds-responders.result.ok.0 ∙ ap vec_len c.collect_feeds-responders.ensures.responders in
+    let count = c.run_second.ensures.count ∙ c.inform_responders.ensures.count ∙ ap vec_len c.collect_feeds-responders.ensures.responders in
     let fit = reader_room (vec_len given) (vec_capacity given) (vec_len now.responders) (vec_capacity had) given.ok.1
     (given.ok.0 ∙ sym (ap length c.assign_crew-crew.ensures.readers) ∙ length-map crew.responders.items serve_pass ∙ sym crew.responders.ok.0 ∙ sym c.run_first.ensures.counts.2)
     c.assign_crew-crew.ensures.readers_room in
@@ -232,14 +207,15 @@ close-requires-clause-readers g c =
     let P : KnownReader → Type 0 = λ f. f.table ≡ table in
     let xs = c.assign_crew-crew.result.responders.items in
     let ys = c.run_first.new.crew.responders.items in
-    let zs = c.inform_responders.new.informed.items in
+    let zs = c.inform_responders.new.jobs.items in
     let ws = c.run_second.new.jobs.items in
     let readers = c.assign_crew-crew.ensures.readers ∙ c.in-Ok.ensures.passes.1 in
     let same : length ys ≡ length xs = sym c.run_first.new.crew.responders.ok.0 ∙ c.run_first.ensures.counts.2 ∙ c.assign_crew-crew.result.responders.ok.0 in
-    let again : length ws ≡ length zs = sym c.run_second.new.jobs.ok.0 ∙ c.run_second.ensures.count ∙ c.inform_responders.new.informed.ok.0 in
+    let again : length ws ≡ length zs = sym c.run_second.new.jobs.ok.0 ∙ c.run_second.ensures.count ∙ c.inform_responders.new.jobs.ok.0 in
     let first = each_keeps (λ x. x.responder.pass.table ≡ table) (HasServed g.T.Link.state g.T.Link.opening c.args.orders.budget.during) (λ a b r h. r.same.table ∙ h) xs ys c.run_first.ensures.responders same
     (readers_are table xs (subst (All (IsNewReader table)) (sym readers) c.requires.readers)) in
-    let informed = pairs_keep (λ x. x.responder.pass.table ≡ table) (λ x. x.responder.pass.table ≡ table) (WasInformed c.collect_feeds-responders.new.feeds.items) (λ x y t h. t.learnt.table ∙ h) c.collect_feeds-responders.result.items zs c.inform_responders.ensures.informed
+    let given = c.collect_feeds-responders.result in
+    let informed = each_keeps (λ x. x.responder.pass.table ≡ table) (WasInformed c.collect_feeds-responders.new.feeds.items) (λ x y t h. t.learnt.table ∙ h) given.items zs c.inform_responders.ensures.informed (sym c.inform_responders.new.jobs.ok.0 ∙ c.inform_responders.ensures.count ∙ given.ok.0)
     (subst (λ v. All (λ x. x.responder.pass.table ≡ table) v.items) (sym c.collect_feeds-responders.ensures.responders) first) in
     let second = each_keeps (λ x. x.responder.pass.table ≡ table) (HasServedAgain g.T.Link.state g.T.Link.opening c.args.orders.budget.after) (λ a b r h. r.same.table ∙ h) zs ws c.run_second.ensures.served again informed in
     subst (All P) (sym (c.collect_responders.ensures.readers ∙ ap (λ l. l ++ map serve_pass ws) c.assign_crew-crew.ensures.no_readers)) (All-map P serve_pass ws second)
@@ -343,14 +319,15 @@ returns-clause-links g c =
     let valid = subst (λ (s : SettingsFields). All (IsKept (length s.sources)) j) c.close.ensures.settings c.close.ensures.valid in
     let xs = crew.responders.items in
     let ys = now.responders.items in
-    let zs = c.inform_responders.new.informed.items in
+    let zs = c.inform_responders.new.jobs.items in
     let ws = c.run_second.new.jobs.items in
     let same : length ys ≡ length xs = sym c.run_first.new.crew.responders.ok.0 ∙ c.run_first.ensures.counts.2 ∙ c.assign_crew-crew.result.responders.ok.0 in
-    let again : length ws ≡ length zs = sym c.run_second.new.jobs.ok.0 ∙ c.run_second.ensures.count ∙ c.inform_responders.new.informed.ok.0 in
+    let again : length ws ≡ length zs = sym c.run_second.new.jobs.ok.0 ∙ c.run_second.ensures.count ∙ c.inform_responders.new.jobs.ok.0 in
     let seen_by = passes_of now.radios.items now.pollers.items now.leap in
-    let informed_to = subst (λ l. Pairs (WasInformed l) ys zs) f.feeds_are (subst (λ v. Pairs (WasInformed collected.feeds.items) v.items zs) c.collect_feeds-responders.ensures.responders c.inform_responders.ensures.informed) in
-    let served = served_twice g.T.Link.state g.T.Link.opening c.args.orders.budget seen_by xs ys zs ws e.responders same informed_to c.run_second.ensures.served in
-    let count : length ws ≡ length xs = again ∙ pairs_length (WasInformed seen_by) ys zs informed_to ∙ same in
+    let informed_to = subst (λ l. Each (WasInformed l) ys zs) f.feeds_are (subst (λ v. Each (WasInformed collected.feeds.items) v.items zs) c.collect_feeds-responders.ensures.responders c.inform_responders.ensures.informed) in
+    let all_informed : length zs ≡ length ys = sym c.inform_responders.new.jobs.ok.0 ∙ c.inform_responders.ensures.count ∙ ap vec_len c.collect_feeds-responders.ensures.responders ∙ now.responders.ok.0 in
+    let served = served_twice g.T.Link.state g.T.Link.opening c.args.orders.budget seen_by xs ys zs ws e.responders same informed_to all_informed c.run_second.ensures.served in
+    let count : length ws ≡ length xs = again ∙ all_informed ∙ same in
     let readers = c.collect_responders.ensures.readers ∙ ap (λ l. l ++ map serve_pass ws) c.assign_crew-crew.ensures.no_readers in
     let read = subst (All (λ (r : KnownReader). HasRead N.settings j r.view)) readers (subst (λ (s : SettingsFields). All (λ (r : KnownReader). HasRead s j r.view) c.collect_responders.new.readers.items) c.close.ensures.settings c.close.ensures.readers) in
     let new = subst (All (IsNewReader N.table)) (sym (c.assign_crew-crew.ensures.readers ∙ c.in-Ok.ensures.passes.1)) c.requires.readers in
