@@ -70,6 +70,48 @@ fn what_lay_in_the_socket_is_heard_after_the_beginning(rt: HostRuntime) -> Resul
     Ok(())
 }
 
+// A socket whose waits of a tenth of a second run out so often, each after an interruption. Then it gives a datagram.
+#[derive(Drop)]
+struct Silent {
+    waits: u32,
+    interrupted: bool,
+}
+
+impl DatagramSocket for Silent {
+    fn receive(&mut self, piece: &mut [u8]) -> io::Result<(usize, SocketAddr)> {
+        self.interrupted = !self.interrupted;
+        if self.interrupted {
+            return Err(io::Error::from(ErrorKind::Interrupted));
+        }
+        if self.waits == 0 {
+            return Ok((piece.len().min(3), loopback(9)));
+        }
+        self.waits -= 1;
+        Err(io::Error::from(ErrorKind::WouldBlock))
+    }
+
+    fn transmit(&mut self, _: SocketAddr, bytes: &[u8]) -> io::Result<usize> {
+        Ok(bytes.len())
+    }
+}
+
+// What a link hears after so many waits.
+fn heard_after(rt: &HostRuntime, waits: u32) -> char {
+    let socket = Silent {
+        waits,
+        interrupted: false,
+    };
+    let mut link = ServiceLink::answering(socket, rt, moment(0), Watch::new(None, None));
+    heard(&mut link)
+}
+
+// Twenty waits are two seconds, whatever was passed over between them.
+#[test]
+fn two_seconds_of_waits_are_a_silence(rt: HostRuntime) {
+    same(&rt, heard_after(&rt, 19), 'd');
+    same(&rt, heard_after(&rt, 20), 'q');
+}
+
 #[test]
 fn a_link_that_never_began_ends_and_takes_nothing(rt: HostRuntime) -> Result<(), Fail> {
     let (begin, _held) = signal_of(&rt)?;

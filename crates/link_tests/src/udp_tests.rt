@@ -146,6 +146,7 @@ fn silence_is_quiet_and_an_error_of_the_socket_is_a_fault(rt: HostRuntime) {
     end(&rt, tried(&rt, ErrorKind::WouldBlock, 1), QUIET_AND_FAULT);
     end(&rt, tried(&rt, ErrorKind::TimedOut, 1), QUIET_AND_FAULT);
     end(&rt, tried(&rt, ErrorKind::NotConnected, 1), FAULTS);
+    end(&rt, tried(&rt, ErrorKind::AddrNotAvailable, 1), FAULTS);
     end(&rt, tried(&rt, ErrorKind::OutOfMemory, 1), FAULTS);
 }
 

@@ -107,6 +107,20 @@ fn asking_again_does_not_prolong_the_gap(rt: HostRuntime) {
     nobody_is_denied(&rt, rt.alloc(), 10, 1, &ASKING_AGAIN);
 }
 
+const FROM_BEFORE: [Asked; 5] = [
+    (FIRST, 100, Code::Pass),
+    (FIRST, 90, Code::Rate),
+    (FIRST, 80, Code::Rate),
+    (FIRST, 0, Code::Rate),
+    (FIRST, 110, Code::Pass),
+];
+
+// A moment from before the last one that passed is not a gap after it, however far from it (a script may go back).
+#[test]
+fn a_request_from_before_the_last_one(rt: HostRuntime) {
+    nobody_is_denied(&rt, rt.alloc(), 10, 1, &FROM_BEFORE);
+}
+
 const AT_A_TABLE_OF_ONE: [Asked; 4] = [
     (FIRST, 303_000_000, Code::Pass),
     (SECOND, 304_000_000, Code::Pass),
