@@ -58,9 +58,14 @@ class Definition:
         return found
 
 
+def bound_by(text: str) -> set[str]:
+    """Returns the names that a text binds itself, on no left side."""
+    return {name for found in BOUND.findall(text) for part in found for name in part.split()}
+
+
 def bound_in(definition: Definition, clause: str) -> set[str]:
     """Returns the names that a clause binds. A name on the left side of an equation that begins with a capital is a constructor."""
-    bound = {name for found in BOUND.findall(clause) for part in found for name in part.split()}
+    bound = bound_by(clause)
     if definition.is_of("record"):
         bound.update(found.group(1) for line in clause.splitlines()[1:] if (found := FIELD.match(line)))
     elif not definition.is_of("data") and (found := LEFT.match(clause)):

@@ -7,7 +7,7 @@ import re
 import textwrap
 from pathlib import Path
 
-from dev.antt_names import FIELD, WORD, Definition, File, Name, Specs, bound_in, read_use
+from dev.antt_names import FIELD, WORD, Definition, File, Name, Specs, bound_by, bound_in, read_use
 from dev.rattle_source import end_of_group
 
 WIDTH = 140
@@ -134,7 +134,7 @@ def names_of_clause(specs: Specs, path: str, lines: list[str]) -> Links:
     for line in (specs.top / "crates" / path).read_text(encoding="utf-8").splitlines():
         if line.startswith("ghost use "):
             read_use(file, line.removeprefix("ghost ").rstrip(";"))
-    return names_in(specs, file, Name("", "", ""), lines, set())
+    return names_in(specs, file, Name("", "", ""), lines, bound_by("\n".join(lines)))
 
 
 def fenced(lines: list[str], links: list[str], note: str = "") -> list[str]:
