@@ -160,6 +160,8 @@ class Judge:
     def delivered(self, mark: Mark) -> None:
         """A line was written for the supervisor."""
         before = self.last.get(mark.radio)
+        if before and before.source != mark.source:
+            self.replaced(mark.radio)  # the reload may have waited for a hung disk
         follows = before and before.second + 1 == mark.second and before.source == mark.source \
             and abs(before.offset - mark.offset) < 1e-4
         self.credit[mark.radio] = self.credit.get(mark.radio, 0) + 1 if follows else 1
