@@ -217,6 +217,48 @@ fn minutes_are_a_minute_apart(rt: HostRuntime) -> Result<(), Fail> {
     comes_to(&rt, alloc, &at_noon(62_000_001, 121_900_000), kind)
 }
 
+// All bits are 0, so the two of the time zone are equal (PTB).
+const REFUSED_MINUTE: Places = Places {
+    ones: &[],
+    count: 59,
+    spacing: 1_000_000,
+};
+
+fn push_minute(list: &mut Vec<Reduction>, begin: u64, places: &Places) -> Result<(), AllocError> {
+    push(list, begin, 100_000)?;
+    push_places(list, begin, places)
+}
+
+// A refused minute is between two good ones: the last stands alone, whatever the first said.
+#[test]
+fn a_minute_after_a_refused_one_is_alone(rt: HostRuntime) -> Result<(), Fail> {
+    let mut list = Vec::new(rt.alloc());
+    push(&mut list, 0, 100_000)?;
+    push_minute(&mut list, 2_000_000, &NOON_MINUTE)?;
+    push_minute(&mut list, 62_000_000, &REFUSED_MINUTE)?;
+    push_minute(&mut list, 122_000_000, &NEXT_MINUTE)?;
+    push(&mut list, 182_000_000, 100_000)?;
+    let heard = dcf_answer(rt.alloc(), list.as_slice())?;
+    same(&rt, heard, lone(182_000_000, 3_976_257_660));
+    Ok(())
+}
+
+// A minute without a leap second, whose marks come so slowly that it closes after 61 s: that is no minute.
+#[test]
+fn a_minute_without_a_leap_second_has_no_61_seconds(rt: HostRuntime) -> Result<(), Fail> {
+    let two = Two {
+        before: NOON_MINUTE,
+        now: Places {
+            ones: &NOON_1,
+            count: 59,
+            spacing: 1_017_000,
+        },
+        first: 62_000_000,
+        second: 123_000_000,
+    };
+    comes_to(&rt, rt.alloc(), &two, differs_at_noon(61_000_000))
+}
+
 const MINUTE_BEFORE_LEAP: Places = Places {
     ones: &BEFORE_LEAP,
     count: 59,
