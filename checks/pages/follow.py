@@ -79,7 +79,8 @@ def main() -> int:
         parser.error(f"no number of a process: {asked.what}")
     rows = [row for row in ROWS if asked.only in (None, row.page)]
     if asked.packaged:
-        rows = sorted((row for row in rows if not row.built), key=lambda row: PACKAGE not in row.commands)
+        first = [row for row in ROWS if PACKAGE in row.commands]
+        rows = [*first, *(row for row in rows if not row.built and row not in first)]
     passed = [follow(row, int(asked.what), asked.packaged) for row in rows]
     for left in LEFT:
         print(f"followed: not here: {left.page}: {len(left.commands)} of these, {left.why}: {'; '.join(left.commands)[:100]}")

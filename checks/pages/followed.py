@@ -41,6 +41,8 @@ SERVE = "./radio_ntpd serve --station examples/serve.toml --during 15"
 EXCHANGE = "./radio_ntpd replay --station examples/station.toml --script examples/exchange.script"
 LEAP = "./radio_ntpd replay --station examples/leap-second.toml --script examples/leap-second.script"
 LOCALHOST = (("HOST", "127.0.0.1"),)
+# A server on port 12300 (300C) has opened it, and read its logs.
+SERVES = "until grep -q ':300C ' /proc/net/udp; do sleep 0.2; done; sleep 3"
 # Waits until a status says that all is well, for two minutes at most. @0 is the command that says it.
 WELL = "turns=0; until @0 > /root/status.out 2>&1 || [ $turns = 120 ]; do turns=$((turns + 1)); sleep 1; done; cat /root/status.out"
 # The soft receiver has 12 minutes of history once this file is gone.
@@ -79,12 +81,12 @@ ROWS = (
     Row(COMMANDS, (
         "./radio_ntpd migrate --station examples/station.toml --journal old.journal > new.journal", "grep '^j2 '", "head -n -2 new.journal",
     ), script=f"{EXCHANGE} | @1 > old.journal; @0; @2 | cmp - old.journal && tail -n 1 new.journal", matches=("status 0",)),
-    Row(COMMANDS, (SERVE, "/usr/sbin/rdate -n -p -v -o 12300 127.0.0.1"), script="@0 & sleep 4; @1 || exit; wait", shows=(
+    Row(COMMANDS, (SERVE, "/usr/sbin/rdate -n -p -v -o 12300 127.0.0.1"), script=f"@0 & {SERVES}; @1 || exit; wait", shows=(
         "rdate: adjust local clock by -",
         "link 0 answered 1 dropped 0 again 0 kissed 0 unkept 0 end count",
         "page 30 1 1 44434600 17077896343877168251 602001203 66935009016 0 328 ed00e298000c8378 0 920", "status 0",
     ), matches=("Thu Jan  1 12:10:[0-9]{2} .*2026", r"j2 30 920 [0-2] 60200\d+ verdict 3976258200 0")),
-    Row(CLIENTS, ("/usr/sbin/rdate -n -p -o 12300 HOST",), given=LOCALHOST, script=f"{SERVE} > served & sleep 4; @0; wait",
+    Row(CLIENTS, ("/usr/sbin/rdate -n -p -o 12300 HOST",), given=LOCALHOST, script=f"{SERVE} > served & {SERVES}; @0; wait",
         matches=("Thu Jan  1 12:10:[0-9]{2} .*2026",)),
     # A recording alone.
     Row(RECORDING, ("./radio_ntpd decode --plan dcf --log FILE",), given=(("FILE", HOUR),), matches=("status 0",)),
@@ -132,9 +134,9 @@ ROWS = (
     # A client with a key.
     Row(CLIENTS, ("openssl rand -base64 15", "chmod 600"), script="@0; @1 station.toml && stat -c %a station.toml",
         matches=("[A-Za-z0-9+/]{20}", "600")),
-    Row(CLIENTS, ("chronyc authdata",), script=r"""
+    Row(CLIENTS, ("chronyc authdata",), script=rf"""
 printf '\n[[key]]\nid = 1\nsecret = "8kSgu3Zn0W1Yp7qTfXb4"\n' >> examples/serve.toml
-./radio_ntpd serve --station examples/serve.toml --during 12 > served & sleep 3
+./radio_ntpd serve --station examples/serve.toml --during 12 > served & {SERVES}
 echo '1 MD5 8kSgu3Zn0W1Yp7qTfXb4' > /etc/chrony/radio.keys
 printf 'server 127.0.0.1 port 12300 iburst key 1\nkeyfile /etc/chrony/radio.keys\n' > /etc/chrony/radio.conf
 /usr/sbin/chronyd -x -f /etc/chrony/radio.conf && sleep 6
