@@ -1,4 +1,4 @@
-"""The modem lines of a machine's second serial port, a 16550: DCD is moved from outside. QEMU has a terminal behind the port, which has no
+"""The modem lines of a machine's second serial port, a 16550: DCD is moved from outside. QEMU has a terminal at the port, which has no
 such lines, and asks for them a hundred times a second; a small library answers that.
 """
 
